@@ -119,6 +119,26 @@ impl Text {
     }
 }
 
+impl PartialEq for Text {
+    ghost use Rattle.std.specs.Cmp.{partial_equiv_from_equiv};
+    ghost use Rattle.std.specs.Cmp.Lexicographic.{nat_list_eq_equiv};
+    ghost use Rattle.std.specs.Str.{bytes_eq};
+
+    ghost eq = { bytes_eq };
+
+    ghost laws = { partial_equiv_from_equiv nat_list_eq_equiv };
+
+    fn eq(&self, other: &Self) -> bool {
+        self.same(other)
+    }
+}
+
+impl Eq for Text {
+    ghost use Rattle.std.specs.Cmp.Lexicographic.{nat_list_eq_equiv};
+
+    ghost laws = { nat_list_eq_equiv };
+}
+
 /// The scalars from `start` on, `count` of them.
 fn part_of(alloc: Global, text: &str, start: usize, count: usize) -> Result<String, AllocError>
     ensures { IfOk result (λ part. string_bytes part ≡ encode_utf8_all (take count (drop start (chars text.now)))) }
