@@ -1,0 +1,4 @@
+pub mod CheckLemmas
+pub mod NameLemmas
+pub mod RowLemmas
+pub mod TableFacts
