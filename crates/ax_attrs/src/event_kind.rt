@@ -10,7 +10,7 @@ use std::marker::Model;
 /// A kind of event, as the number of its row.
 #[derive(Clone, Copy, Debug, PartialEq, Eq, PartialOrd, Ord, Hash)]
 pub struct EventKind {
-    number: u16,
+    pub(crate) number: u16,
 }
 
 impl Model for EventKind {

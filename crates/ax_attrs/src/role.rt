@@ -11,7 +11,7 @@ use std::marker::Model;
 /// A role, as the number of its row.
 #[derive(Clone, Copy, Debug, PartialEq, Eq, PartialOrd, Ord, Hash)]
 pub struct Role {
-    number: u16,
+    pub(crate) number: u16,
 }
 
 impl Model for Role {

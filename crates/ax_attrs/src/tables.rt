@@ -3,9 +3,8 @@ ghost use Rattle.ax_attrs.specs.Entry.{IsTable};
 ghost use Rattle.ax_attrs.specs.Rows.{entries};
 ghost use Rattle.ax_attrs.specs.Tables.{role_rows, state_rows, key_rows, event_rows};
 
-use crate::event_number::*;
 use crate::name::is_table;
-use crate::{Kind, Row, Table, When};
+use crate::{EventKind, Key, Kind, Role, Row, State, Table, When};
 
 macro_rules! optional {
     () => {
@@ -16,17 +15,16 @@ macro_rules! optional {
     };
 }
 
-// A row is its number and its name, then the kind of its values in brackets, then its event and when in parentheses.
-macro_rules! table {
-    ($($number:literal $name:literal $([$kind:ident])? $(($event:ident, $when:ident))?;)*) => {
-        Table {
-            rows: &[$(Row {
-                number: $number,
-                name: $name,
-                kind: optional!($(Kind::$kind)?),
-                event: optional!($(($event, When::$when))?),
-            }),*],
-        }
+// A row is the constant that has its number, and its name, then the kind of its values in brackets, then its event and
+// when in parentheses. So the contract of a table ties each constant to its row.
+macro_rules! rows {
+    ($type:ident: $($constant:ident $name:literal $([$kind:ident])? $(($event:ident, $when:ident))?;)*) => {
+        [$(Row {
+            number: $type::$constant.number,
+            name: $name,
+            kind: optional!($(Kind::$kind)?),
+            event: optional!($((EventKind::$event.number, When::$when))?),
+        }),*]
     };
 }
 
@@ -34,44 +32,46 @@ macro_rules! table {
 pub fn roles() -> Table<36>
     ensures { entries result.rows.now ≡ role_rows }
 {
-    table! {
-        1 "generic";
-        2 "root_web_area";
-        3 "heading";
-        4 "paragraph";
-        5 "static_text";
-        6 "link";
-        7 "button";
-        8 "checkbox";
-        9 "text_field";
-        10 "image";
-        11 "list";
-        12 "list_item";
-        13 "table";
-        14 "row";
-        15 "cell";
-        16 "iframe";
-        17 "dialog";
-        18 "alert";
-        19 "menu";
-        20 "menu_item";
-        21 "tab";
-        22 "tab_list";
-        23 "main";
-        24 "navigation";
-        25 "form";
-        26 "slider";
-        27 "status";
-        28 "article";
-        29 "banner";
-        30 "complementary";
-        31 "search";
-        32 "region";
-        33 "tree";
-        34 "tree_item";
-        35 "switch";
-        36 "progress_bar";
-    }
+    const ROWS: [Row; 36] = rows! {
+        Role:
+        GENERIC "generic";
+        ROOT_WEB_AREA "root_web_area";
+        HEADING "heading";
+        PARAGRAPH "paragraph";
+        STATIC_TEXT "static_text";
+        LINK "link";
+        BUTTON "button";
+        CHECKBOX "checkbox";
+        TEXT_FIELD "text_field";
+        IMAGE "image";
+        LIST "list";
+        LIST_ITEM "list_item";
+        TABLE "table";
+        ROW "row";
+        CELL "cell";
+        IFRAME "iframe";
+        DIALOG "dialog";
+        ALERT "alert";
+        MENU "menu";
+        MENU_ITEM "menu_item";
+        TAB "tab";
+        TAB_LIST "tab_list";
+        MAIN "main";
+        NAVIGATION "navigation";
+        FORM "form";
+        SLIDER "slider";
+        STATUS "status";
+        ARTICLE "article";
+        BANNER "banner";
+        COMPLEMENTARY "complementary";
+        SEARCH "search";
+        REGION "region";
+        TREE "tree";
+        TREE_ITEM "tree_item";
+        SWITCH "switch";
+        PROGRESS_BAR "progress_bar";
+    };
+    Table { rows: &ROWS }
 }
 
 pub(crate) fn role_list() -> &'static [Row]
@@ -87,20 +87,22 @@ pub(crate) fn role_list() -> &'static [Row]
 pub fn states() -> Table<12>
     ensures { entries result.rows.now ≡ state_rows }
 {
-    table! {
-        1 "focusable" (STATE_CHANGED, Either);
-        2 "expanded" (EXPANDED, Gained);
-        3 "collapsed" (COLLAPSED, Gained);
-        4 "editable" (STATE_CHANGED, Either);
-        5 "invisible" (STATE_CHANGED, Either);
-        6 "required" (STATE_CHANGED, Either);
-        7 "visited" (STATE_CHANGED, Either);
-        8 "ignored" (IGNORED_CHANGED, Either);
-        9 "multiselectable" (STATE_CHANGED, Either);
-        10 "protected" (STATE_CHANGED, Either);
-        11 "offscreen" (SHOWN, Lost);
-        12 "pressed" (PRESSED_CHANGED, Either);
-    }
+    const ROWS: [Row; 12] = rows! {
+        State:
+        FOCUSABLE "focusable" (STATE_CHANGED, Either);
+        EXPANDED "expanded" (EXPANDED, Gained);
+        COLLAPSED "collapsed" (COLLAPSED, Gained);
+        EDITABLE "editable" (STATE_CHANGED, Either);
+        INVISIBLE "invisible" (STATE_CHANGED, Either);
+        REQUIRED "required" (STATE_CHANGED, Either);
+        VISITED "visited" (STATE_CHANGED, Either);
+        IGNORED "ignored" (IGNORED_CHANGED, Either);
+        MULTISELECTABLE "multiselectable" (STATE_CHANGED, Either);
+        PROTECTED "protected" (STATE_CHANGED, Either);
+        OFFSCREEN "offscreen" (SHOWN, Lost);
+        PRESSED "pressed" (PRESSED_CHANGED, Either);
+    };
+    Table { rows: &ROWS }
 }
 
 pub(crate) fn state_list() -> &'static [Row]
@@ -116,46 +118,48 @@ pub(crate) fn state_list() -> &'static [Row]
 pub fn keys() -> Table<38>
     ensures { entries result.rows.now ≡ key_rows }
 {
-    table! {
-        1 "name" [Text] (NAME_CHANGED, Either);
-        2 "description" [Text] (DESCRIPTION_CHANGED, Either);
-        3 "value" [Text] (VALUE_CHANGED, Either);
-        4 "placeholder" [Text] (PLACEHOLDER_CHANGED, Either);
-        5 "language" [Text] (ATTRIBUTE_CHANGED, Either);
-        6 "child_tree" [Tree] (CHILD_TREE_CHANGED, Either);
-        7 "live" [Text] (LIVE_STATUS_CHANGED, Either);
-        8 "level" [Int] (LEVEL_CHANGED, Either);
-        9 "pos_in_set" [Int] (ATTRIBUTE_CHANGED, Either);
-        10 "set_size" [Int] (ATTRIBUTE_CHANGED, Either);
-        11 "checked" [Text] (CHECKED_CHANGED, Either);
-        12 "active_descendant" [Node] (ACTIVE_DESCENDANT_CHANGED, Either);
-        13 "controls" [Node] (ATTRIBUTE_CHANGED, Either);
-        14 "clips" [Flag];
-        15 "busy" [Flag] (BUSY_CHANGED, Either);
-        16 "modal" [Flag] (ATTRIBUTE_CHANGED, Either);
-        17 "selected" [Flag] (SELECTED_CHANGED, Either);
-        18 "value_now" [Int] (VALUE_CHANGED, Either);
-        19 "value_min" [Int] (ATTRIBUTE_CHANGED, Either);
-        20 "value_max" [Int] (ATTRIBUTE_CHANGED, Either);
-        21 "url" [Text] (ATTRIBUTE_CHANGED, Either);
-        22 "access_key" [Text] (ATTRIBUTE_CHANGED, Either);
-        23 "class_name" [Text];
-        24 "atomic" [Flag];
-        25 "role_description" [Text] (ROLE_DESCRIPTION_CHANGED, Either);
-        26 "key_shortcuts" [Text] (ATTRIBUTE_CHANGED, Either);
-        27 "tooltip" [Text] (ATTRIBUTE_CHANGED, Either);
-        28 "invalid" [Text] (ERROR_CHANGED, Either);
-        29 "error_message" [Node] (ERROR_CHANGED, Either);
-        30 "details" [Node] (ATTRIBUTE_CHANGED, Either);
-        31 "flow_to" [Node] (ATTRIBUTE_CHANGED, Either);
-        32 "labelled_by" [Node] (ATTRIBUTE_CHANGED, Either);
-        33 "row_count" [Int] (ATTRIBUTE_CHANGED, Either);
-        34 "column_count" [Int] (ATTRIBUTE_CHANGED, Either);
-        35 "auto_complete" [Text] (ATTRIBUTE_CHANGED, Either);
-        36 "container" [Node] (LOCATION_CHANGED, Either);
-        37 "scroll_x" [Int] (LOCATION_CHANGED, Either);
-        38 "scroll_y" [Int] (LOCATION_CHANGED, Either);
-    }
+    const ROWS: [Row; 38] = rows! {
+        Key:
+        NAME "name" [Text] (NAME_CHANGED, Either);
+        DESCRIPTION "description" [Text] (DESCRIPTION_CHANGED, Either);
+        VALUE "value" [Text] (VALUE_CHANGED, Either);
+        PLACEHOLDER "placeholder" [Text] (PLACEHOLDER_CHANGED, Either);
+        LANGUAGE "language" [Text] (ATTRIBUTE_CHANGED, Either);
+        CHILD_TREE "child_tree" [Tree] (CHILD_TREE_CHANGED, Either);
+        LIVE "live" [Text] (LIVE_STATUS_CHANGED, Either);
+        LEVEL "level" [Int] (LEVEL_CHANGED, Either);
+        POS_IN_SET "pos_in_set" [Int] (ATTRIBUTE_CHANGED, Either);
+        SET_SIZE "set_size" [Int] (ATTRIBUTE_CHANGED, Either);
+        CHECKED "checked" [Text] (CHECKED_CHANGED, Either);
+        ACTIVE_DESCENDANT "active_descendant" [Node] (ACTIVE_DESCENDANT_CHANGED, Either);
+        CONTROLS "controls" [Node] (ATTRIBUTE_CHANGED, Either);
+        CLIPS "clips" [Flag];
+        BUSY "busy" [Flag] (BUSY_CHANGED, Either);
+        MODAL "modal" [Flag] (ATTRIBUTE_CHANGED, Either);
+        SELECTED "selected" [Flag] (SELECTED_CHANGED, Either);
+        VALUE_NOW "value_now" [Int] (VALUE_CHANGED, Either);
+        VALUE_MIN "value_min" [Int] (ATTRIBUTE_CHANGED, Either);
+        VALUE_MAX "value_max" [Int] (ATTRIBUTE_CHANGED, Either);
+        URL "url" [Text] (ATTRIBUTE_CHANGED, Either);
+        ACCESS_KEY "access_key" [Text] (ATTRIBUTE_CHANGED, Either);
+        CLASS_NAME "class_name" [Text];
+        ATOMIC "atomic" [Flag];
+        ROLE_DESCRIPTION "role_description" [Text] (ROLE_DESCRIPTION_CHANGED, Either);
+        KEY_SHORTCUTS "key_shortcuts" [Text] (ATTRIBUTE_CHANGED, Either);
+        TOOLTIP "tooltip" [Text] (ATTRIBUTE_CHANGED, Either);
+        INVALID "invalid" [Text] (ERROR_CHANGED, Either);
+        ERROR_MESSAGE "error_message" [Node] (ERROR_CHANGED, Either);
+        DETAILS "details" [Node] (ATTRIBUTE_CHANGED, Either);
+        FLOW_TO "flow_to" [Node] (ATTRIBUTE_CHANGED, Either);
+        LABELLED_BY "labelled_by" [Node] (ATTRIBUTE_CHANGED, Either);
+        ROW_COUNT "row_count" [Int] (ATTRIBUTE_CHANGED, Either);
+        COLUMN_COUNT "column_count" [Int] (ATTRIBUTE_CHANGED, Either);
+        AUTO_COMPLETE "auto_complete" [Text] (ATTRIBUTE_CHANGED, Either);
+        CONTAINER "container" [Node] (LOCATION_CHANGED, Either);
+        SCROLL_X "scroll_x" [Int] (LOCATION_CHANGED, Either);
+        SCROLL_Y "scroll_y" [Int] (LOCATION_CHANGED, Either);
+    };
+    Table { rows: &ROWS }
 }
 
 pub(crate) fn key_list() -> &'static [Row]
@@ -171,38 +175,40 @@ pub(crate) fn key_list() -> &'static [Row]
 pub fn events() -> Table<30>
     ensures { entries result.rows.now ≡ event_rows }
 {
-    table! {
-        1 "document_title_changed";
-        2 "url_changed";
-        3 "load_complete";
-        4 "selection_changed";
-        5 "focus_changed";
-        6 "role_changed";
-        7 "expanded";
-        8 "collapsed";
-        9 "state_changed";
-        10 "ignored_changed";
-        11 "name_changed";
-        12 "description_changed";
-        13 "value_changed";
-        14 "placeholder_changed";
-        15 "child_tree_changed";
-        16 "live_status_changed";
-        17 "level_changed";
-        18 "checked_changed";
-        19 "active_descendant_changed";
-        20 "busy_changed";
-        21 "selected_changed";
-        22 "attribute_changed";
-        23 "location_changed";
-        24 "children_changed";
-        25 "subtree_created";
-        26 "live_region_changed";
-        27 "shown";
-        28 "pressed_changed";
-        29 "role_description_changed";
-        30 "error_changed";
-    }
+    const ROWS: [Row; 30] = rows! {
+        EventKind:
+        DOCUMENT_TITLE_CHANGED "document_title_changed";
+        URL_CHANGED "url_changed";
+        LOAD_COMPLETE "load_complete";
+        SELECTION_CHANGED "selection_changed";
+        FOCUS_CHANGED "focus_changed";
+        ROLE_CHANGED "role_changed";
+        EXPANDED "expanded";
+        COLLAPSED "collapsed";
+        STATE_CHANGED "state_changed";
+        IGNORED_CHANGED "ignored_changed";
+        NAME_CHANGED "name_changed";
+        DESCRIPTION_CHANGED "description_changed";
+        VALUE_CHANGED "value_changed";
+        PLACEHOLDER_CHANGED "placeholder_changed";
+        CHILD_TREE_CHANGED "child_tree_changed";
+        LIVE_STATUS_CHANGED "live_status_changed";
+        LEVEL_CHANGED "level_changed";
+        CHECKED_CHANGED "checked_changed";
+        ACTIVE_DESCENDANT_CHANGED "active_descendant_changed";
+        BUSY_CHANGED "busy_changed";
+        SELECTED_CHANGED "selected_changed";
+        ATTRIBUTE_CHANGED "attribute_changed";
+        LOCATION_CHANGED "location_changed";
+        CHILDREN_CHANGED "children_changed";
+        SUBTREE_CREATED "subtree_created";
+        LIVE_REGION_CHANGED "live_region_changed";
+        SHOWN "shown";
+        PRESSED_CHANGED "pressed_changed";
+        ROLE_DESCRIPTION_CHANGED "role_description_changed";
+        ERROR_CHANGED "error_changed";
+    };
+    Table { rows: &ROWS }
 }
 
 pub(crate) fn event_list() -> &'static [Row]

@@ -1,0 +1,4 @@
+pub mod Ids
+pub mod Makers
+pub mod Rule
+pub mod Seats
