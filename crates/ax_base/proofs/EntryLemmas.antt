@@ -7,7 +7,7 @@ use Rattle.std.specs.Cmp.{nat_cmp_is, nat_cmp_total, unsigned_tied}
 use Rattle.std.specs.FinMap.{nat_cmp-IsAntisymmetric}
 use Rattle.std.specs.FinMap.Entries.{find, put, by_order, below_all, is_sorted-put, is_sorted-where_key, find-put, find-where_key, same_entries}
 use Rattle.std.proofs.lemmas.Bool.{ltb-true, ltb-false, eqb-true, eqb-false, eq-eqb, ne_eqb, and_parts}
-use Rattle.ax_base.specs.Entries.{IsMap, without, has_key}
+use Rattle.ax_base.specs.Entries.{IsMap, without, has_key, value_at}
 
 less : (k x : ℕ) → k < x → nat_cmp k x ≡ Less
 less k x l = sym (nat_cmp_is k x Less l)
@@ -161,11 +161,6 @@ module _ {X : Type 0} where
             let l : k < e.0 = next k e.0 b i in
             without-above k (e ∷ es) (both _ _ (of_lt k e.0 l) (above k e.0 es l (as_T _ sorted.0)))
       ] refl h
-
-  -- the value of an entry with the key
-  abbrev pub value_at : ℕ → Option (ℕ × X) → Option X
-  value_at k None = None
-  value_at k (Some e) = cond (e.0 == k) (Some e.1) None
 
   pub find-place : (k : ℕ) (es : List (ℕ × X)) → IsMap es → find nat_cmp k es ≡ value_at k (slice_get es (place k es))
   find-place k [] m = refl

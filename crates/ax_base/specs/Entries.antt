@@ -1,5 +1,5 @@
 -- Finite maps from numbers, each the list of its entries in the order of the keys: `find` and `put` of std look up and set.
-use Rattle.std.specs.Prelude.{ℕ, Bool, false, not, ◌==◌, List, Option, Some, None, filter, IsTrue}
+use Rattle.std.specs.Prelude.{ℕ, Bool, false, not, ◌==◌, List, Option, Some, None, filter, IsTrue, if◌then◌else◌}
 use Rattle.std.specs.FinMap.Entries.{is_sorted}
 use Rattle.std.specs.Ordering.{nat_cmp}
 
@@ -16,3 +16,8 @@ module _ {X : Type 0} where
   abbrev pub has_key : ℕ → Option (ℕ × X) → Bool
   has_key k None = false
   has_key k (Some e) = e.0 == k
+
+  -- the value of an entry with the key
+  abbrev pub value_at : ℕ → Option (ℕ × X) → Option X
+  value_at k None = None
+  value_at k (Some e) = if e.0 == k then Some e.1 else None

@@ -92,6 +92,12 @@ impl Rect {
         self.h
     }
 
+    pub fn same(&self, other: &Rect) -> bool
+        ensures { IsTrue result ↔ (self.now ≡ other.now) }
+    {
+        self.x == other.x && self.y == other.y && self.w == other.w && self.h == other.h
+    }
+
     /// Whether the point is within: the left and upper edges are, the right and lower ones aren't.
     pub fn holds(&self, p: Point) -> bool
         ensures { IsTrue result ↔ Holds self.now p.x p.y }

@@ -1,0 +1,3 @@
+pub mod AttrLemmas
+pub mod NodeRows
+pub mod StateLemmas

@@ -1,0 +1,4 @@
+pub mod Attrs
+pub mod Kinds
+pub mod Look
+pub mod States
