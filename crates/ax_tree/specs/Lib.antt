@@ -1,0 +1,11 @@
+pub mod Refusal
+pub mod NodeRule
+pub mod SerialRule
+pub mod EditRule
+pub mod EditErr
+pub mod MarkRule
+pub mod Reach
+pub mod UpdateShape
+pub mod InStep
+pub mod Bundles
+pub mod UpdateRule

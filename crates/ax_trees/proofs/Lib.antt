@@ -1,0 +1,7 @@
+pub mod Changed
+pub mod Trees
+pub mod Nodes
+pub mod Lists
+pub mod Chains
+pub mod Moved
+pub mod Shapes
