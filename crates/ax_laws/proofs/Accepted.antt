@@ -5,7 +5,7 @@ use Rattle.std.proofs.lemmas.Bool.Decides.{eqb_tells}
 use Rattle.std.proofs.lemmas.Bool.{false≢true}
 use Rattle.std.proofs.Math.Path.{fun_ext}
 use Rattle.ax_laws.specs.Merge.{ReachFits, RootsFit, merged}
-use Rattle.ax_tree.specs.NodeRule.{and_then, nodes_taken}
+use Rattle.ax_tree.specs.UpdateRule.{and_then, nodes_taken}
 use Rattle.ax_tree.specs.SerialRule.{all_of, listed}
 use Rattle.ax_tree.specs.UpdateRule.{draft_node, draft_of, finished, missing, started, trees_after}
 use Rattle.ax_trees.specs.Changes.{with_node}

@@ -2,7 +2,7 @@
 use Rattle.std.proofs.Common.{Bool, List, None, [], arith, false, refl, true, ℕ, ◌||◌, ◌∷◌, ◌≡◌}
 use Rattle.std.proofs.lemmas.Bool.Decides.{eqb_tells}
 use Rattle.ax_laws.specs.Merge.{merged}
-use Rattle.ax_tree.specs.NodeRule.{arranged, first_repeated, only}
+use Rattle.ax_tree.specs.UpdateRule.{arranged, first_repeated, only}
 use Rattle.ax_trees.specs.Lists.{contains}
 use Rattle.ax_trees.specs.Nodes.{root_below}
 use Rattle.ax_trees.specs.Trees.{IsDistinct, Trees, bare, has, has_root, roots, tree}

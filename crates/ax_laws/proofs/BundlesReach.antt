@@ -3,7 +3,7 @@ use Rattle.std.proofs.Common.{Err, List, Ok, Result, Some, [], ap, arith, eqb, l
 use Rattle.std.proofs.lemmas.Bool.Decides.{eqb_tells}
 use Rattle.ax_tree.specs.Bundles.{result_or, rounds, trees_after_all, trees_updates}
 use Rattle.ax_tree.specs.InStep.{TreesInStep, lists, marks_left}
-use Rattle.ax_tree.specs.NodeRule.{and_then}
+use Rattle.ax_tree.specs.UpdateRule.{and_then}
 use Rattle.ax_tree.specs.Refusal.{Refusal}
 use Rattle.ax_tree.specs.SerialRule.{trees_update}
 use Rattle.ax_tree.specs.UpdateRule.{Update, trees_after}

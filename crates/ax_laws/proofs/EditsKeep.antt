@@ -6,7 +6,7 @@ use Rattle.std.specs.List.{filter}
 use Rattle.ax_tree.specs.EditErr.{BadIndex, EditErr, IdTaken, IntoItself, IsRoot, TooMany, UnknownNode, TooDeep}
 use Rattle.ax_tree.specs.EditRule.{InsertLeaf, MoveTree, NodeEdit, RemoveTree, SetKnown, SetRoot, sized, trees_edited, trees_refusal, unless}
 use Rattle.ax_tree.specs.InStep.{TreesInStep}
-use Rattle.ax_tree.specs.MarkRule.{add_mark, add_marks, marks_after}
+use Rattle.ax_tree.specs.MarkRule.{add_mark, add_marks, trees_marks}
 use Rattle.ax_trees.specs.Changes.{planted, pruned, with_below, with_known, with_node}
 use Rattle.ax_trees.specs.Lists.{NoneTwice, contains}
 use Rattle.ax_trees.specs.Nodes.{below, node_at, parent_or, tree_at}
@@ -203,7 +203,7 @@ sized_low w h =
     leb-true (height w) 256 (passed (leb (height w) 256) (TooDeep (height w)) None a.1).0
 
 -- Each accepted edit keeps a receiver in step.
-pub edit_keeps : {X : Type 0} (e : NodeEdit X) (r s : Trees X) (m : List ℕ) → TreesInStep r s m → trees_refusal e s ≡ None → TreesInStep r (trees_edited e s) (marks_after e s m)
+pub edit_keeps : {X : Type 0} (e : NodeEdit X) (r s : Trees X) (m : List ℕ) → TreesInStep r s m → trees_refusal e s ≡ None → TreesInStep r (trees_edited e s) (trees_marks e s m)
 edit_keeps (SetRoot n d) r s m st h = root_kept r s m n d st
 edit_keeps {X} (InsertLeaf p i n d) r s m st h =
     let w : Trees X = trees_edited (InsertLeaf p i n d) s in

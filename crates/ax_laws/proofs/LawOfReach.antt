@@ -4,7 +4,7 @@ use Rattle.std.proofs.lemmas.Bool.{false_from_ne_true, false≢true}
 use Rattle.std.proofs.Math.Path.{fun_ext}
 use Rattle.ax_laws.specs.Merge.{ReachFits, RootsFit, merged}
 use Rattle.ax_tree.specs.InStep.{lists}
-use Rattle.ax_tree.specs.NodeRule.{arranged, node_taken, nodes_taken, only}
+use Rattle.ax_tree.specs.UpdateRule.{arranged, node_taken, nodes_taken, only}
 use Rattle.ax_tree.specs.SerialRule.{listed}
 use Rattle.ax_trees.specs.Changes.{with_node}
 use Rattle.ax_trees.specs.Nodes.{Node, below}

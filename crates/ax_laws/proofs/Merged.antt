@@ -4,7 +4,7 @@ use Rattle.std.proofs.lemmas.Bool.{cases_Bool, eqb-true, false_from_ne_true, fal
 use Rattle.std.proofs.lemmas.Bool.Decides.{eqb_tells}
 use Rattle.ax_laws.specs.Merge.{ReachFits, RootsFit, merged}
 use Rattle.ax_tree.specs.InStep.{lists}
-use Rattle.ax_tree.specs.NodeRule.{arranged}
+use Rattle.ax_tree.specs.UpdateRule.{arranged}
 use Rattle.ax_tree.specs.SerialRule.{listed}
 use Rattle.ax_trees.specs.Changes.{with_node}
 use Rattle.ax_trees.specs.Nodes.{below, node_at, root_below, root_known}

@@ -2,7 +2,7 @@
 use Rattle.std.proofs.Common.{Bool, Err, List, None, Ok, Option, Result, Some, [], ap, arith, cond, eqb, false, refl, true, ℕ, ◌++◌, ◌||◌, ◌∷◌, ◌≡◌}
 use Rattle.std.proofs.lemmas.Bool.Decides.{eqb_tells}
 use Rattle.ax_tree.specs.InStep.{lists}
-use Rattle.ax_tree.specs.NodeRule.{and_then, arranged, bad_child, first_repeated, node_taken, nodes_taken, only, refuse_or}
+use Rattle.ax_tree.specs.UpdateRule.{and_then, arranged, bad_child, first_repeated, node_taken, nodes_taken, only, refuse_or}
 use Rattle.ax_tree.specs.Refusal.{DuplicateChild, NotInTree, Refusal, Reparented}
 use Rattle.ax_trees.specs.Changes.{with_node}
 use Rattle.ax_trees.specs.Lists.{first_that}

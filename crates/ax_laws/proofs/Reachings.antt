@@ -132,7 +132,7 @@ reached_fits c s go x d h f =
     rw (at x start, deeper) refl
 
 pub closed_is : {X E : Type 0} (c : Trees E) (s : Trees X) (x : ℕ) → is_closed c s x ≡ true → IsClosed c s x
-closed_is c s x f = record { deeper = λ z h g. grind (arith, all_ids_at (λ v. not (has c v) || has (below c x) v) (below s x) z f h, g) }
+closed_is c s x f = record { within = λ z h g. grind (arith, all_ids_at (λ v. not (has c v) || has (below c x) v) (below s x) z f h, g) }
 
 pub closed_back : {X E : Type 0} (c : Trees E) (s : Trees X) (x : ℕ) → IsClosed c s x → is_closed c s x ≡ true
-closed_back c s x f = all_ids_from (λ v. not (has c v) || has (below c x) v) (below s x) (λ z h. by_go (has c z) (λ g. grind (arith, f.deeper z h g)) (λ g. grind (arith, g)))
+closed_back c s x f = all_ids_from (λ v. not (has c v) || has (below c x) v) (below s x) (λ z h. by_go (has c z) (λ g. grind (arith, f.within z h g)) (λ g. grind (arith, g)))

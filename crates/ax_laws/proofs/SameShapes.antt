@@ -8,8 +8,8 @@ use Rattle.ax_tree.specs.SerialRule.{all_of, goes_on, is_closed, is_plain, last_
 use Rattle.ax_tree.specs.UpdateRule.{Update}
 use Rattle.ax_tree.specs.UpdateShape.{SameShape}
 use Rattle.ax_trees.specs.Lists.{common_prefix, last_that}
-use Rattle.ax_trees.specs.Nodes.{all_ids, all_roots, below, chain, parent_or}
-use Rattle.ax_trees.specs.Trees.{IsTree, Trees, bare, has, has_root, is_root, root_of, tree}
+use Rattle.ax_trees.specs.Nodes.{below, chain, parent_or}
+use Rattle.ax_trees.specs.Trees.{IsTree, Trees, bare, has, has_root, is_root, root_of, tree, all_ids, all_roots}
 use Rattle.ax_trees.proofs.Chains.{below_one, chain_absent, chain_of_root, chain_step}
 use Rattle.ax_trees.proofs.Lists.{same_bool}
 use Rattle.ax_trees.proofs.Trees.{by_go, has_root_is_root, is_root_has_root, parent_has, parent_is}

@@ -2,16 +2,16 @@
 use Rattle.std.proofs.Common.{Bool, Err, List, None, Ok, Option, Result, Some, [], ap, cond, false, leb, map, refl, true, ℕ, ◌∙◌, ◌∷◌, ◌≡◌}
 use Rattle.std.proofs.Math.Path.{fun_ext}
 use Rattle.std.specs.Option.{option_map}
-use Rattle.ax_tree.specs.NodeRule.{and_then, arranged, bad_child, first_repeated, node_taken, nodes_taken, only, refuse_or}
+use Rattle.ax_tree.specs.UpdateRule.{and_then, arranged, bad_child, first_repeated, node_taken, nodes_taken, only, refuse_or}
 use Rattle.ax_tree.specs.Refusal.{BadClear, DuplicateChild, NotInTree, Pending, Refusal, Reparented, TooDeep}
 use Rattle.ax_tree.specs.SerialRule.{all_of, common_chain, goes_on, is_closed, is_plain, last_common, last_held, lowest_closed, partial_update, reached_fit, stand_under, trees_update}
 use Rattle.ax_tree.specs.UpdateRule.{Update, cleared, completed, draft_node, draft_of, finished, least_pending, missing, own_pending, started, trees_after}
 use Rattle.ax_tree.specs.UpdateShape.{mapped_node, mapped_result, mapped_update}
 use Rattle.ax_trees.specs.Changes.{with_node}
 use Rattle.ax_trees.specs.Lists.{common_prefix, contains, first_that, last_that}
-use Rattle.ax_trees.specs.Nodes.{Node, all_ids, all_roots, below, chain}
+use Rattle.ax_trees.specs.Nodes.{Node, below, chain}
 use Rattle.ax_trees.specs.Shape.{mapped}
-use Rattle.ax_trees.specs.Trees.{Trees, bare, has, height, is_root, root_of, tree}
+use Rattle.ax_trees.specs.Trees.{Trees, bare, has, height, is_root, root_of, tree, all_ids, all_roots}
 use Rattle.ax_trees.proofs.Lists.{first_that_ext}
 use Rattle.ax_trees.proofs.Shapes.{below-mapped, chain-mapped, has-mapped, has_fun, has_root-mapped, has_under, height-mapped, is_root-mapped, root_below-mapped, root_known-mapped, root_under, with_node-mapped}
 use Rattle.ax_trees.proofs.Trees.{by_go}

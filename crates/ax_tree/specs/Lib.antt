@@ -1,11 +1,10 @@
 pub mod Refusal
-pub mod NodeRule
-pub mod SerialRule
-pub mod EditRule
 pub mod EditErr
+pub mod EditRule
 pub mod MarkRule
+pub mod UpdateRule
+pub mod SerialRule
 pub mod Reach
-pub mod UpdateShape
 pub mod InStep
 pub mod Bundles
-pub mod UpdateRule
+pub mod UpdateShape

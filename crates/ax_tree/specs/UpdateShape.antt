@@ -1,20 +1,20 @@
--- Updates without data, and what two trees of the same shape have in common.
-use Rattle.std.specs.Prelude.{Err, Ok, Result, map, ℕ, ◌≡◌}
-use Rattle.ax_tree.specs.Refusal.{Refusal}
-use Rattle.ax_tree.specs.UpdateRule.{Update}
+-- Updates with something else known of each node, and what trees of the same shape have in common.
+use Rattle.std.specs.Prelude.{ℕ, ◌≡◌, map, Result, Ok, Err}
+use Rattle.ax_trees.specs.Trees.{Trees, has, has_root, root_of}
 use Rattle.ax_trees.specs.Nodes.{Node, below}
 use Rattle.ax_trees.specs.Shape.{mapped}
-use Rattle.ax_trees.specs.Trees.{Trees, has, has_root, root_of}
+use Rattle.ax_tree.specs.Refusal.{Refusal}
+use Rattle.ax_tree.specs.UpdateRule.{Update}
 
 abbrev pub mapped_node : {X E : Type 0} → (X → E) → Node X → Node E
-mapped_node f u = record { id = u.id; known = f u.known; children = u.children }
+mapped_node g n = record { id = n.id; known = g n.known; children = n.children }
 
 abbrev pub mapped_update : {X E : Type 0} → (X → E) → Update X → Update E
-mapped_update f u = record { clear = u.clear; root = u.root; nodes = map (mapped_node f) u.nodes }
+mapped_update g u = record { clear = u.clear; root = u.root; nodes = map (mapped_node g) u.nodes }
 
 abbrev pub mapped_result : {X E : Type 0} → (X → E) → Result (Trees X) Refusal → Result (Trees E) Refusal
-mapped_result f (Ok w) = Ok (mapped f w)
-mapped_result f (Err e) = Err e
+mapped_result g (Ok f) = Ok (mapped g f)
+mapped_result g (Err e) = Err e
 
 -- the same root and the same parent of each id, whatever the order of children
 pub record SameShape {X E : Type 0} (c : Trees X) (k : Trees E) : Type 0 where

@@ -4,8 +4,8 @@ use Rattle.std.proofs.lemmas.Bool.{eqb-true, false_from_ne_true, false≢true}
 use Rattle.std.proofs.lemmas.Bool.Decides.{eqb_tells}
 use Rattle.std.proofs.lemmas.Option.{same_Some}
 use Rattle.ax_trees.specs.Lists.{contains, first_that}
-use Rattle.ax_trees.specs.Nodes.{Node, all_ids, all_roots, below, node_at, parent_or, root_below}
-use Rattle.ax_trees.specs.Trees.{IsDistinct, IsSingle, Trees, bare, has, has_root, is_root, root_of, roots, tree}
+use Rattle.ax_trees.specs.Nodes.{Node, below, node_at, parent_or, root_below}
+use Rattle.ax_trees.specs.Trees.{IsDistinct, IsSingle, Trees, bare, has, has_root, is_root, root_of, roots, tree, all_ids, all_roots}
 
 pub root_in : {X : Type 0} (w : Trees X) (z : ℕ) → has_root w z ≡ true → has w z ≡ true
 root_in bare z h = h

@@ -1,22 +1,22 @@
--- The code by which a proof tells trees apart: a model whose value is trees wants it.
+-- The code by which a proof tells trees apart. A model whose value has trees in it wants it.
+use Rattle.std.specs.Prelude.{ℕ, ◌≡◌, refl}
 use Rattle.std.specs.Coded.{Coded}
 use base.Stored.{Gv}
 use base.Stored.Gv.{gcons, gnil, gnum}
-use Rattle.std.specs.Prelude.{refl, ℕ, ◌≡◌}
 use Rattle.ax_trees.specs.Trees.{Trees, bare, tree}
 
-abbrev code_w : {X : Type 0} → Coded X → Trees X → Gv
-code_w a bare = gnil
-code_w a (tree i e k r) = gcons (gcons (gnum i) (a.code e)) (gcons (code_w a k) (code_w a r))
+abbrev trees_code : {X : Type 0} → Coded X → Trees X → Gv
+trees_code c bare = gnil
+trees_code c (tree i x inner others) = gcons (gcons (gnum i) (c.code x)) (gcons (trees_code c inner) (trees_code c others))
 
-four : {X : Type 0} (i j : ℕ) (e a : X) (k l r q : Trees X) → i ≡ j → e ≡ a → k ≡ l → r ≡ q → tree i e k r ≡ tree j a l q
-four i j e a k l r q p s t u = λ x. tree (p x) (s x) (t x) (u x)
+same_parts : {X : Type 0} (i j : ℕ) (x y : X) (k l r q : Trees X) → i ≡ j → x ≡ y → k ≡ l → r ≡ q → tree i x k r ≡ tree j y l q
+same_parts i j x y k l r q p s t u = λ z. tree (p z) (s z) (t z) (u z)
 
-pub inj_w : {X : Type 0} (c : Coded X) (v w : Trees X) → code_w c v ≡ code_w c w → v ≡ w
-inj_w c bare bare p = refl
-inj_w c bare (tree j a l q) p = absurd (cc)
-inj_w c (tree i e k r) bare p = absurd (cc)
-inj_w c (tree i e k r) (tree j a l q) p = four i j e a k l r q (cc) (c.inj e a (cc)) (inj_w c k l (cc)) (inj_w c r q (cc))
+pub same_code : {X : Type 0} (c : Coded X) (f g : Trees X) → trees_code c f ≡ trees_code c g → f ≡ g
+same_code c bare bare p = refl
+same_code c bare (tree j y l q) p = absurd (cc)
+same_code c (tree i x k r) bare p = absurd (cc)
+same_code c (tree i x k r) (tree j y l q) p = same_parts i j x y k l r q (cc) (c.inj x y (cc)) (same_code c k l (cc)) (same_code c r q (cc))
 
-abbrev pub wood_code : {X : Type 0} → Coded X → Coded (Trees X)
-wood_code c = record { code = code_w c; inj = inj_w c }
+abbrev pub coded_trees : {X : Type 0} → Coded X → Coded (Trees X)
+coded_trees c = record { code = trees_code c; inj = same_code c }

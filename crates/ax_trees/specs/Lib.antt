@@ -1,6 +1,6 @@
-pub mod Nodes
-pub mod Lists
-pub mod Code
 pub mod Trees
+pub mod Nodes
 pub mod Changes
+pub mod Lists
 pub mod Shape
+pub mod Code
