@@ -14,3 +14,4 @@ pub mod EditsKeep
 pub mod Shapes
 pub mod Reachings
 pub mod SameShapes
+pub mod NodeSteps

@@ -5,3 +5,4 @@ pub mod Lists
 pub mod Chains
 pub mod Moved
 pub mod Shapes
+pub mod Grown

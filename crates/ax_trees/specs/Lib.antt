@@ -2,5 +2,6 @@ pub mod Trees
 pub mod Nodes
 pub mod Changes
 pub mod Lists
+pub mod Spots
 pub mod Shape
 pub mod Code
