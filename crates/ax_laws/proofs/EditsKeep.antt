@@ -12,7 +12,7 @@ use Rattle.ax_trees.specs.Lists.{NoneTwice, contains}
 use Rattle.ax_trees.specs.Nodes.{below, node_at, parent_or, tree_at}
 use Rattle.ax_trees.specs.Trees.{IsDistinct, IsTree, Trees, bare, count, has, height, is_bare, is_root, root_of, roots, tree}
 use Rattle.ax_trees.proofs.Changed.{distinct_with_node, has_with_node, has_with_node_cases, has_with_node_in, has_with_node_more, has_with_node_split, height_known, node_with_node_inside, node_with_node_outside, outside, root_of-with_node, single_with_node, with_below_is, with_known_is, with_node_from}
-use Rattle.ax_trees.proofs.Lists.{contains-append, filter_in, filter_kept, not_false, once_filter, once_push}
+use Rattle.ax_trees.proofs.Lists.{contains-push, filter_in, filter_kept, not_false, once_filter, once_push}
 use Rattle.ax_trees.proofs.Moved.{distinct_planted, distinct_pruned, has-planted, height_pruned, node_planted_new, node_planted_old, node_pruned, parent_pruned, pruned_gone, pruned_in, pruned_rest, single_pruned}
 use Rattle.ax_trees.proofs.Nodes.{distinct_tree_at, has-tree_at, node_below, node_tree_at, tree_at_is}
 use Rattle.ax_trees.proofs.Trees.{below_in, by_go, distinct_below, not_root, root_of_in}
@@ -32,7 +32,7 @@ once_adds m [] o = o
 once_adds m (x ∷ t) o = once_adds (add_mark m x) t (once_add m x o)
 
 pub contains_add : (m : List ℕ) (x z : ℕ) → contains (add_mark m x) z ≡ (contains m z || eqb x z)
-contains_add m x z = by_go (contains m x) (λ q. rw q (grind (arith, eqb_tells x z, q))) (λ q. rw q (contains-append m x z))
+contains_add m x z = by_go (contains m x) (λ q. rw q (grind (arith, eqb_tells x z, q))) (λ q. rw q (contains-push m x z))
 
 pub contains_adds : (m t : List ℕ) (z : ℕ) → contains (add_marks m t) z ≡ (contains m z || contains t z)
 contains_adds m [] z = grind arith

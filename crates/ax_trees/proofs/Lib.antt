@@ -6,3 +6,5 @@ pub mod Chains
 pub mod Moved
 pub mod Shapes
 pub mod Grown
+pub mod Times
+pub mod Parents

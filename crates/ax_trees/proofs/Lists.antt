@@ -101,13 +101,13 @@ has_any p xs ys x e h = rw (e, h) refl
 pub same_Ok : {A E : Type 0} (x y : A) → ◌≡◌ {A = Result A E} (Ok x) (Ok y) → x ≡ y
 same_Ok x y h = cc
 
-pub contains-append : (m : List ℕ) (x z : ℕ) → contains (m ++ (x ∷ [])) z ≡ (contains m z || eqb x z)
-contains-append [] x z = grind arith
-contains-append (y ∷ m) x z = grind (arith, contains-append m x z)
+pub contains-push : (m : List ℕ) (x z : ℕ) → contains (m ++ (x ∷ [])) z ≡ (contains m z || eqb x z)
+contains-push [] x z = grind arith
+contains-push (y ∷ m) x z = grind (arith, contains-push m x z)
 
 pub once_push : (m : List ℕ) (x : ℕ) → NoneTwice m → contains m x ≡ false → NoneTwice (m ++ (x ∷ []))
 once_push [] x o n = (refl, tt)
-once_push (y ∷ m) x o n = (grind (arith, contains-append m x y, eqb_tells x y, eqb_tells y x, o.0, n), once_push m x o.1 (grind (arith, n)))
+once_push (y ∷ m) x o n = (grind (arith, contains-push m x y, eqb_tells x y, eqb_tells y x, o.0, n), once_push m x o.1 (grind (arith, n)))
 
 pub not_false : (b : Bool) → not b ≡ true → b ≡ false
 not_false b h = grind (arith, h)
@@ -120,3 +120,7 @@ same_bool false false f g = refl
 pub split : {X : Type 0} (b : Bool) (n : X) (xs ys : List X) → cond b (n ∷ (xs ++ ys)) ys ≡ cond b (n ∷ xs) [] ++ ys
 split true n xs ys = refl
 split false n xs ys = refl
+
+pub contains-append : (xs ys : List ℕ) (z : ℕ) → contains (xs ++ ys) z ≡ (contains xs z || contains ys z)
+contains-append [] ys z = refl
+contains-append (x ∷ xs) ys z = grind (arith, contains-append xs ys z)

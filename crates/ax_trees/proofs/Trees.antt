@@ -180,6 +180,12 @@ pub not_below_self : {X : Type 0} (w : Trees X) (x : ℕ) → IsDistinct w → h
 not_below_self bare x d = refl
 not_below_self (tree i e k r) x d = grind (arith, eqb_tells i x, d.0, not_below_self k x d.3, not_below_self r x d.4)
 
+-- a root is nobody's child
+pub not_both : {X : Type 0} (k : Trees X) (y z : ℕ) → IsDistinct k → has_root k z ≡ true → has_root (below k y) z ≡ false
+not_both bare y z d t = refl
+not_both (tree i e k r) y z d t =
+    grind (arith, t, eqb_tells i y, eqb_tells i z, root_in k z, root_in r z, root_in (below k y) z, root_in (below r y) z, below_in k y z, below_in r y z, d.0, d.1, d.2.apart z, not_both r y z d.4)
+
 -- a node stands under its parent
 pub parent_is : {X : Type 0} (w : Trees X) (y z f : ℕ) → IsDistinct w → has_root (below w y) z ≡ true → parent_or w z f ≡ y
 parent_is bare y z f d t = absurd (false≢true t)
@@ -202,8 +208,3 @@ parent_is (tree i e k r) y z f d t =
       parent_is r y z f d.4,
       not_both k y z d.3,
     )
-  where
-    not_both : {E : Type 0} (k : Trees E) (y z : ℕ) → IsDistinct k → has_root k z ≡ true → has_root (below k y) z ≡ false
-    not_both bare y z d t = refl
-    not_both (tree i e k r) y z d t =
-        grind (arith, t, eqb_tells i y, eqb_tells i z, root_in k z, root_in r z, root_in (below k y) z, root_in (below r y) z, below_in k y z, below_in r y z, d.0, d.1, d.2.apart z, not_both r y z d.4)
