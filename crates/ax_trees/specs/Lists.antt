@@ -1,5 +1,9 @@
 -- Lists of ids.
-use Rattle.std.specs.Prelude.{ℕ, Bool, false, ◌||◌, ◌≡◌, ◌==◌, if◌then◌else◌, List, [], ◌∷◌, Option, Some, None}
+use Rattle.std.specs.Prelude.{ℕ, Bool, true, false, ◌||◌, ◌≡◌, ◌==◌, if◌then◌else◌, List, [], ◌∷◌, Option, Some, None}
+
+abbrev pub is_nil : {A : Type 0} → List A → Bool
+is_nil [] = true
+is_nil (x ∷ xs) = false
 
 abbrev pub contains : List ℕ → ℕ → Bool
 contains [] z = false

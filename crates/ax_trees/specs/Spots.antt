@@ -12,6 +12,11 @@ pub record Spot (X : Type 0) : Type 0 where
 abbrev pub spot : {X : Type 0} → Trees X → ℕ → Option (Spot X)
 spot f z = option_map (λ (n : Node _). record { above = parent f z; known = n.known; children = n.children }) (node_at f z)
 
+-- the first, or the second where there is no first
+abbrev pub or_else : {A : Type 0} → Option A → Option A → Option A
+or_else (Some a) o = Some a
+or_else None o = o
+
 -- z at the place n of a list, or at its end
 abbrev pub inserted : ℕ → ℕ → List ℕ → List ℕ
 inserted zero z js = z ∷ js
