@@ -1,0 +1,17 @@
+pub mod Merged
+pub mod Arranged
+pub mod Listed
+pub mod Parts
+pub mod Siblings
+pub mod LawOfReach
+pub mod Drafts
+pub mod PlainFits
+pub mod Accepted
+pub mod Served
+pub mod Steps
+pub mod BundlesReach
+pub mod EditsKeep
+pub mod Shapes
+pub mod Reachings
+pub mod SameShapes
+pub mod NodeSteps

@@ -1,0 +1,2 @@
+//! The laws of partial updates, over definitions alone.
+#![tactic(auto)]

@@ -1,0 +1,10 @@
+pub mod Refusal
+pub mod EditErr
+pub mod EditRule
+pub mod MarkRule
+pub mod UpdateRule
+pub mod SerialRule
+pub mod Reach
+pub mod InStep
+pub mod Bundles
+pub mod UpdateShape

@@ -1,0 +1,2 @@
+//! Edits and updates of a tree.
+#![tactic(auto)]

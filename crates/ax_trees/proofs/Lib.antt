@@ -1,0 +1,10 @@
+pub mod Changed
+pub mod Trees
+pub mod Nodes
+pub mod Lists
+pub mod Chains
+pub mod Moved
+pub mod Shapes
+pub mod Grown
+pub mod Times
+pub mod Parents
