@@ -8,3 +8,5 @@ pub mod Shapes
 pub mod Grown
 pub mod Times
 pub mod Parents
+pub mod Placed
+pub mod PlacedParents

@@ -1,5 +1,5 @@
 -- Trees kept as a map from each id to its node, with or without the id above it.
-use Rattle.std.specs.Prelude.{ℕ, zero, suc, ◌≡◌, List, [], ◌∷◌, Option, Some, None, option_map}
+use Rattle.std.specs.Prelude.{ℕ, zero, suc, ◌≡◌, ◌==◌, if◌then◌else◌, List, [], ◌∷◌, Option, Some, None, option_map}
 use Rattle.ax_trees.specs.Trees.{Trees, bare, tree, roots, IsTree}
 use Rattle.ax_trees.specs.Nodes.{Node, node_at, parent}
 
@@ -22,6 +22,15 @@ abbrev pub inserted : ℕ → ℕ → List ℕ → List ℕ
 inserted zero z js = z ∷ js
 inserted (suc n) z [] = z ∷ []
 inserted (suc n) z (j ∷ js) = j ∷ inserted n z js
+
+-- a list without z
+abbrev pub removed : ℕ → List ℕ → List ℕ
+removed z [] = []
+removed z (j ∷ js) = if j == z then js else j ∷ removed z js
+
+-- a node with other children
+abbrev pub with_children : {X : Type 0} → (List ℕ → List ℕ) → Node X → Node X
+with_children g n = record { id = n.id; known = n.known; children = g n.children }
 
 -- the map m has the nodes of f, and nothing else
 pub record Stands {X : Type 0} (m : ℕ → Option (Node X)) (f : Trees X) : Type 0 where
