@@ -3,7 +3,8 @@ use Rattle.std.proofs.Common.{Bool, List, None, Option, Some, [], arith, eqb, fa
 use Rattle.std.proofs.lemmas.Bool.{eqb-true, false_from_ne_true, false≢true, leb-true}
 use Rattle.std.proofs.lemmas.Bool.Decides.{eqb_tells}
 use Rattle.std.specs.List.{filter}
-use Rattle.ax_tree.specs.EditErr.{BadIndex, EditErr, IdTaken, IntoItself, IsRoot, TooMany, UnknownNode, TooDeep}
+use Rattle.ax_tree.specs.declared.edit.EditErr.{EditErr}
+use Rattle.ax_tree.specs.declared.edit.EditErr.TheVariants.{BadIndex, IdTaken, IntoItself, IsRoot, TooMany, UnknownNode, TooDeep}
 use Rattle.ax_tree.specs.EditRule.{InsertLeaf, MoveTree, NodeEdit, RemoveTree, SetKnown, SetRoot, sized, trees_edited, trees_refusal, unless}
 use Rattle.ax_tree.specs.InStep.{TreesInStep}
 use Rattle.ax_tree.specs.MarkRule.{add_mark, add_marks, trees_marks}

@@ -15,3 +15,10 @@ pub mod Shapes
 pub mod Reachings
 pub mod SameShapes
 pub mod NodeSteps
+pub mod Sent
+pub mod FrameSteps
+pub mod GoodPackets
+pub mod InOrder
+pub mod Updated
+pub mod FiniteMaps
+pub mod TreeMaps

@@ -3,7 +3,8 @@ use Rattle.std.proofs.Common.{Bool, Err, List, None, Ok, Option, Result, Some, [
 use Rattle.std.proofs.lemmas.Bool.Decides.{eqb_tells}
 use Rattle.ax_tree.specs.InStep.{lists}
 use Rattle.ax_tree.specs.UpdateRule.{and_then, arranged, bad_child, first_repeated, node_taken, nodes_taken, only, refuse_or}
-use Rattle.ax_tree.specs.Refusal.{DuplicateChild, NotInTree, Refusal, Reparented}
+use Rattle.ax_tree.specs.declared.update.Refusal.{Refusal}
+use Rattle.ax_tree.specs.declared.update.Refusal.TheVariants.{DuplicateChild, NotInTree, Reparented}
 use Rattle.ax_trees.specs.Changes.{with_node}
 use Rattle.ax_trees.specs.Lists.{first_that}
 use Rattle.ax_trees.specs.Nodes.{Node, below}

@@ -1,10 +1,10 @@
 -- The tests of reached, plain and closed say what the sets say.
-use Rattle.std.proofs.Common.{Bool, arith, eqb, false, not, refl, subst, sym, true, ℕ, ◌&&◌, ◌||◌, ◌∙◌, ◌≡◌}
+use Rattle.std.proofs.Common.{Bool, List, arith, eqb, false, not, refl, subst, sym, true, ℕ, ◌&&◌, ◌||◌, ◌∙◌, ◌≡◌}
 use Rattle.std.proofs.lemmas.Bool.{and_parts, eqb-true, false_from_ne_true, false≢true}
 use Rattle.std.proofs.lemmas.Bool.Decides.{eqb_tells}
 use Rattle.ax_tree.specs.InStep.{lists}
 use Rattle.ax_tree.specs.Reach.{FitsReached, IsClosed, IsReached, child, start}
-use Rattle.ax_tree.specs.SerialRule.{from_root, is_closed, listed, reached_fit, stand_under}
+use Rattle.ax_tree.specs.SerialRule.{from_root, is_closed, listed, reached_fit, stand_under, goes_on, is_plain, last_common}
 use Rattle.ax_trees.specs.Nodes.{below, root_below, tree_at}
 use Rattle.ax_trees.specs.Trees.{IsDistinct, Trees, bare, has, has_root, tree}
 use Rattle.ax_laws.proofs.Listed.{listed_has, lists-append}
@@ -136,3 +136,17 @@ closed_is c s x f = record { within = λ z h g. grind (arith, all_ids_at (λ v. 
 
 pub closed_back : {X E : Type 0} (c : Trees E) (s : Trees X) (x : ℕ) → IsClosed c s x → is_closed c s x ≡ true
 closed_back c s x f = all_ids_from (λ v. not (has c v) || has (below c x) v) (below s x) (λ z h. by_go (has c z) (λ g. grind (arith, f.within z h g)) (λ g. grind (arith, g)))
+
+-- plain: the chains agree, and the reached nodes fit
+pub plain_is : {X E : Type 0} (c : Trees E) (s : Trees X) (m : List ℕ) (r a : ℕ) → IsDistinct s → has s a ≡ true → is_plain c s m r a ≡ true
+    → (last_common c s r a ≡ a) × FitsReached c s (goes_on c m) a
+plain_is c s m r a d h p =
+    let parts : (eqb (last_common c s r a) a ≡ true) × ((stand_under c a (below s a) && reached_fit c (goes_on c m) (below s a)) ≡ true) = grind (arith, p) in
+    (eqb-true (last_common c s r a) a parts.0, fits_reached c s (goes_on c m) a d h parts.1)
+
+pub plain_back : {X E : Type 0} (c : Trees E) (s : Trees X) (m : List ℕ) (r a : ℕ) → IsDistinct s → has s a ≡ true → last_common c s r a ≡ a → FitsReached c s (goes_on c m) a
+    → is_plain c s m r a ≡ true
+plain_back c s m r a d h e f =
+    let same : eqb (last_common c s r a) a ≡ true = grind (arith, eqb_tells (last_common c s r a) a, e) in
+    let fit : (stand_under c a (below s a) && reached_fit c (goes_on c m) (below s a)) ≡ true = reached_fits c s (goes_on c m) a d h f in
+    rw (same, fit) refl

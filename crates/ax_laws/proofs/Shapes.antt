@@ -3,7 +3,8 @@ use Rattle.std.proofs.Common.{Bool, Err, List, None, Ok, Option, Result, Some, [
 use Rattle.std.proofs.Math.Path.{fun_ext}
 use Rattle.std.specs.Option.{option_map}
 use Rattle.ax_tree.specs.UpdateRule.{and_then, arranged, bad_child, first_repeated, node_taken, nodes_taken, only, refuse_or}
-use Rattle.ax_tree.specs.Refusal.{BadClear, DuplicateChild, NotInTree, Pending, Refusal, Reparented, TooDeep}
+use Rattle.ax_tree.specs.declared.update.Refusal.{Refusal}
+use Rattle.ax_tree.specs.declared.update.Refusal.TheVariants.{BadClear, DuplicateChild, NotInTree, Pending, Reparented, TooDeep}
 use Rattle.ax_tree.specs.SerialRule.{all_of, common_chain, goes_on, is_closed, is_plain, last_common, last_held, lowest_closed, partial_update, reached_fit, stand_under, trees_update}
 use Rattle.ax_tree.specs.UpdateRule.{Update, cleared, completed, draft_node, draft_of, finished, least_pending, missing, own_pending, started, trees_after}
 use Rattle.ax_tree.specs.UpdateShape.{mapped_node, mapped_result, mapped_update}

@@ -1,2 +1,4 @@
 pub mod Merge
 pub mod NodeSteps
+pub mod FiniteMap
+pub mod Laws

@@ -3,7 +3,8 @@ use Rattle.std.specs.Prelude.{ℕ, Bool, not, ◌||◌, ◌==◌, nat_le, if◌t
 use Rattle.ax_trees.specs.Trees.{Trees, bare, tree, is_bare, has, count, height, is_root}
 use Rattle.ax_trees.specs.Nodes.{below, children, tree_at}
 use Rattle.ax_trees.specs.Changes.{with_below, with_known, planted, pruned}
-use Rattle.ax_tree.specs.EditErr.{EditErr, NoRoot, UnknownNode, IdTaken, BadIndex, IsRoot, IntoItself, TooMany, TooDeep}
+use Rattle.ax_tree.specs.declared.edit.EditErr.{EditErr}
+use Rattle.ax_tree.specs.declared.edit.EditErr.TheVariants.{NoRoot, UnknownNode, IdTaken, BadIndex, IsRoot, IntoItself, TooMany, TooDeep}
 
 -- an edit of nodes, where X is what is known of a node
 pub data NodeEdit (X : Type 0) : Type 0 where

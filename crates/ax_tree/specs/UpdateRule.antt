@@ -4,7 +4,8 @@ use Rattle.ax_trees.specs.Trees.{Trees, bare, tree, has, height, has_root, is_ro
 use Rattle.ax_trees.specs.Nodes.{Node, below, root_known, root_below}
 use Rattle.ax_trees.specs.Changes.{with_node}
 use Rattle.ax_trees.specs.Lists.{contains, first_that}
-use Rattle.ax_tree.specs.Refusal.{Refusal, BadClear, NotInTree, DuplicateChild, Reparented, Pending, TooDeep}
+use Rattle.ax_tree.specs.declared.update.Refusal.{Refusal}
+use Rattle.ax_tree.specs.declared.update.Refusal.TheVariants.{BadClear, NotInTree, DuplicateChild, Reparented, Pending, TooDeep}
 
 -- an id to clear, a root, and the data of nodes in order
 pub record Update (X : Type 0) : Type 0 where

@@ -3,7 +3,7 @@ use Rattle.std.specs.Prelude.{ℕ, ◌≡◌, map, Result, Ok, Err}
 use Rattle.ax_trees.specs.Trees.{Trees, has, has_root, root_of}
 use Rattle.ax_trees.specs.Nodes.{Node, below}
 use Rattle.ax_trees.specs.Shape.{mapped}
-use Rattle.ax_tree.specs.Refusal.{Refusal}
+use Rattle.ax_tree.specs.declared.update.Refusal.{Refusal}
 use Rattle.ax_tree.specs.UpdateRule.{Update}
 
 abbrev pub mapped_node : {X E : Type 0} → (X → E) → Node X → Node E

@@ -10,3 +10,4 @@ pub mod Times
 pub mod Parents
 pub mod Placed
 pub mod PlacedParents
+pub mod Sizes

@@ -1,0 +1,5 @@
+use Rattle.ax_laws.proofs.Updated.{applied_by_shape}
+use Rattle.ax_laws.proofs.refusals_see_shape_alone.Goals as goal
+
+pub returns : goal.returns
+returns c = λ u r q e. applied_by_shape u r q e

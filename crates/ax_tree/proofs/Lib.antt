@@ -1,0 +1,3 @@
+pub mod SerialExamples
+pub mod UpdateExamples
+pub mod EditExamples

@@ -1,0 +1,101 @@
+use ax_attrs::{Key, Role};
+use ax_base::{NodeId, Rect, Seq, Text, TreeId};
+use ax_node::{NodeData, StateSet, Value};
+use thiserror::Error;
+
+/// A list of edits.
+pub type Edits = Seq<Edit>;
+/// The attributes that are to be replaced or removed, in order.
+pub type AttrChanges = Seq<AttrChange>;
+
+/// An edit of a source tree. The node data of `Root` and `Insert` have no children.
+#[derive(Debug, Drop)]
+pub enum Edit {
+    /// The tree becomes this one node.
+    Root(NodeData),
+    /// A leaf more, at `index` of the parent's children.
+    Insert {
+        parent: NodeId,
+        index: usize,
+        node: NodeData,
+    },
+    /// The node goes, with all below it.
+    Remove(NodeId),
+    /// The node, with all below it, stands at `index` among the other children of the new parent.
+    Move {
+        node: NodeId,
+        parent: NodeId,
+        index: usize,
+    },
+    /// What is given of the node is replaced.
+    Set(SetNode),
+    /// What is given of the tree data is replaced.
+    Tree(SetTree),
+}
+
+/// What is to be replaced of a node.
+#[derive(Debug, Drop)]
+pub struct SetNode {
+    pub node: NodeId,
+    pub role: Option<Role>,
+    pub states: Option<StateSet>,
+    pub attrs: AttrChanges,
+    pub rect: Option<Rect>,
+}
+
+/// An attribute with its new value, or none, which removes it.
+#[derive(Debug, Drop)]
+pub struct AttrChange {
+    pub key: Key,
+    pub value: Option<Value>,
+}
+
+/// What is to be replaced of tree data: an outer `Some` replaces the field, an outer `None` leaves it.
+#[derive(Debug, Drop)]
+pub struct SetTree {
+    pub parent: Option<Option<TreeId>>,
+    pub focused: Option<Option<TreeId>>,
+    pub loaded: Option<bool>,
+    pub focus: Option<Option<NodeId>>,
+    pub anchor: Option<Option<(NodeId, u32)>>,
+    pub end: Option<Option<(NodeId, u32)>>,
+    pub title: Option<Text>,
+    pub url: Option<Text>,
+}
+
+/// Why an edit was refused.
+#[derive(Debug, Drop, Error)]
+pub enum EditErr {
+    #[error("the tree has no root")]
+    NoRoot,
+    #[error("node {} is not in the tree", .0.get())]
+    UnknownNode(NodeId),
+    #[error("node {} is in the tree already", .0.get())]
+    IdTaken(NodeId),
+    /// The index, and how many children there are.
+    #[error("index {0} is beyond the {1} children")]
+    BadIndex(usize, usize),
+    #[error("node {} is the root", .0.get())]
+    IsRoot(NodeId),
+    #[error("node {} would stand below itself", .0.get())]
+    IntoItself(NodeId),
+    /// How many nodes there would be.
+    #[error("the tree would have {0} nodes")]
+    TooMany(usize),
+    /// How many nodes the longest chain would have.
+    #[error("a chain would have {0} nodes")]
+    TooDeep(usize),
+    #[error("attribute {} does not take this value, or is given twice", .0.number())]
+    BadAttr(Key),
+    #[error("no memory")]
+    NoMemory,
+}
+
+/// Why a mark was refused.
+#[derive(Debug, Drop, Error)]
+pub enum MarkErr {
+    #[error("node {} is not in the tree", .0.get())]
+    UnknownNode(NodeId),
+    #[error("no memory")]
+    NoMemory,
+}
