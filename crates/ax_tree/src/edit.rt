@@ -1,6 +1,9 @@
+ghost use Rattle.std.specs.Prelude.{◌≡◌, IfOk};
+
 use ax_attrs::{Key, Role};
-use ax_base::{NodeId, Rect, Seq, Text, TreeId};
+use ax_base::{NoMemory, NodeId, Rect, Seq, Text, TreeId};
 use ax_node::{NodeData, StateSet, Value};
+use std::alloc::Global;
 use thiserror::Error;
 
 /// A list of edits.
@@ -64,7 +67,7 @@ pub struct SetTree {
 }
 
 /// Why an edit was refused.
-#[derive(Debug, Drop, Error)]
+#[derive(Clone, Copy, Debug, PartialEq, Eq, Error)]
 pub enum EditErr {
     #[error("the tree has no root")]
     NoRoot,
@@ -92,10 +95,114 @@ pub enum EditErr {
 }
 
 /// Why a mark was refused.
-#[derive(Debug, Drop, Error)]
+#[derive(Clone, Copy, Debug, PartialEq, Eq, Error)]
 pub enum MarkErr {
     #[error("node {} is not in the tree", .0.get())]
     UnknownNode(NodeId),
     #[error("no memory")]
     NoMemory,
+}
+
+impl Edit {
+    /// The same edit once more, as a journal and a slip both hold it. Linear in its size.
+    pub fn copy(&self, alloc: Global) -> Result<Edit, NoMemory>
+        ensures { IfOk result (λ e. e ≡ self.now) }
+    {
+        match self {
+            Edit::Root(node) => Ok(Edit::Root(node.copy()?)),
+            Edit::Insert {
+                parent,
+                index,
+                node,
+            } => Ok(Edit::Insert {
+                parent: *parent,
+                index: *index,
+                node: node.copy()?,
+            }),
+            Edit::Remove(node) => Ok(Edit::Remove(*node)),
+            Edit::Move {
+                node,
+                parent,
+                index,
+            } => Ok(Edit::Move {
+                node: *node,
+                parent: *parent,
+                index: *index,
+            }),
+            Edit::Set(set) => Ok(Edit::Set(set.copy(alloc)?)),
+            Edit::Tree(set) => Ok(Edit::Tree(set.copy()?)),
+        }
+    }
+}
+
+impl SetNode {
+    pub fn copy(&self, alloc: Global) -> Result<SetNode, NoMemory>
+        ensures { IfOk result (λ s. s ≡ self.now) }
+    {
+        let states = match &self.states {
+            Some(states) => Some(states.copy()?),
+            None => None,
+        };
+        let attrs = copy_changes(alloc, self.attrs.as_slice())?;
+        Ok(SetNode {
+            node: self.node,
+            role: self.role,
+            states,
+            attrs,
+            rect: self.rect,
+        })
+    }
+}
+
+impl AttrChange {
+    pub fn copy(&self) -> Result<AttrChange, NoMemory>
+        ensures { IfOk result (λ c. c ≡ self.now) }
+    {
+        let value = match &self.value {
+            Some(value) => Some(value.copy()?),
+            None => None,
+        };
+        Ok(AttrChange {
+            key: self.key,
+            value,
+        })
+    }
+}
+
+impl SetTree {
+    pub fn copy(&self) -> Result<SetTree, NoMemory>
+        ensures { IfOk result (λ s. s ≡ self.now) }
+    {
+        let title = copy_text(&self.title)?;
+        let url = copy_text(&self.url)?;
+        Ok(SetTree {
+            parent: self.parent,
+            focused: self.focused,
+            loaded: self.loaded,
+            focus: self.focus,
+            anchor: self.anchor,
+            end: self.end,
+            title,
+            url,
+        })
+    }
+}
+
+fn copy_text(text: &Option<Text>) -> Result<Option<Text>, NoMemory>
+    ensures { IfOk result (λ t. t ≡ text.now) }
+{
+    match text {
+        Some(text) => Ok(Some(text.copy()?)),
+        None => Ok(None),
+    }
+}
+
+fn copy_changes(alloc: Global, changes: &[AttrChange]) -> Result<AttrChanges, NoMemory>
+    ensures { IfOk result (λ copy. copy ≡ changes.now) }
+{
+    let mut copy = AttrChanges::new(alloc);
+    for change in changes {
+        copy.push(change.copy()?)?;
+    }
+    Ok(copy)
 }

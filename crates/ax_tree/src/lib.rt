@@ -6,6 +6,8 @@
 
 mod edit;
 mod packet;
+#[cfg(test)]
+mod tests;
 mod update;
 mod verdict;
 mod view;

@@ -1,5 +1,8 @@
-use ax_base::{NodeId, Seq};
+ghost use Rattle.std.specs.Prelude.{◌≡◌, IfOk};
+
+use ax_base::{NoMemory, NodeId, Seq};
 use ax_node::{NodeData, TreeData};
+use std::alloc::Global;
 
 /// A list of nodes.
 pub type Nodes = Seq<NodeData>;
@@ -40,4 +43,33 @@ pub enum Refusal {
 pub struct BundleErr {
     pub at: usize,
     pub why: Refusal,
+}
+
+impl TreeUpdate {
+    /// The same update once more. Linear in its size.
+    pub fn copy(&self, alloc: Global) -> Result<TreeUpdate, NoMemory>
+        ensures { IfOk result (λ u. u ≡ self.now) }
+    {
+        let nodes = copy_nodes(alloc, self.nodes.as_slice())?;
+        let tree_data = match &self.tree_data {
+            Some(tree_data) => Some(tree_data.copy()?),
+            None => None,
+        };
+        Ok(TreeUpdate {
+            clear: self.clear,
+            root: self.root,
+            nodes,
+            tree_data,
+        })
+    }
+}
+
+fn copy_nodes(alloc: Global, nodes: &[NodeData]) -> Result<Nodes, NoMemory>
+    ensures { IfOk result (λ copy. copy ≡ nodes.now) }
+{
+    let mut copy = Nodes::new(alloc);
+    for node in nodes {
+        copy.push(node.copy()?)?;
+    }
+    Ok(copy)
 }
