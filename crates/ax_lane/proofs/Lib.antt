@@ -1,0 +1,4 @@
+pub mod Ended
+pub mod GoodFronts
+pub mod Lists
+pub mod Moves
