@@ -1,3 +1,4 @@
 pub mod SerialExamples
 pub mod UpdateExamples
 pub mod EditExamples
+pub mod FrameExamples
