@@ -1,4 +1,5 @@
 pub mod Merge
 pub mod NodeSteps
 pub mod FiniteMap
+pub mod TreeLaws
 pub mod Laws

@@ -1,8 +1,8 @@
 //! The laws of trees, updates and packets, over the definitions of `ax_tree` alone. Each is the contract of a function
-//! with an empty body; its statement stands in `specs/Laws.antt`.
+//! with an empty body; its statement stands in `specs/Laws.antt` or `specs/TreeLaws.antt`.
 #![tactic(auto)]
 
-ghost use Rattle.ax_laws.specs.Laws.{EachTreeIsAFiniteMap, EachFiniteMapIsOneTree};
+ghost use Rattle.ax_laws.specs.TreeLaws.{EachTreeIsAFiniteMap, EachFiniteMapIsOneTree};
 ghost use Rattle.ax_laws.specs.Laws.{RefusalsSeeShapeAlone, EachUpdateIsAccepted, UpdateSeesParentsAlone, ListedAreReached, TestsAreSets};
 ghost use Rattle.ax_laws.specs.Laws.{EachUpdateKeepsStep, EachEditKeepsStep, EachTouchKeepsStep, EachDeliveryKeepsStep};
 ghost use Rattle.ax_laws.specs.Laws.{EachBundleGivesTheSource, BrokenBundleIsCompleted};
