@@ -3,3 +3,4 @@ pub mod NodeSteps
 pub mod FiniteMap
 pub mod TreeLaws
 pub mod Laws
+pub mod MarkLaws
