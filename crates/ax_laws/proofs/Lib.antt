@@ -22,3 +22,4 @@ pub mod InOrder
 pub mod Updated
 pub mod FiniteMaps
 pub mod TreeMaps
+pub mod NoMarkLeft

@@ -9,7 +9,7 @@ use Rattle.ax_trees.specs.Nodes.{Node, node_at}
 use Rattle.ax_node.specs.Look.{Look}
 use Rattle.ax_tree.specs.Tree.{Tree, IsWellFormed, node, as_node, data_of}
 use Rattle.ax_laws.specs.FiniteMap.{IsTreeMap}
-use Rattle.ax_laws.specs.Laws.{node_map, Told}
+use Rattle.ax_laws.specs.TreeLaws.{node_map, Told}
 use Rattle.ax_laws.proofs.FiniteMaps.{shows_map, same_map, Tells, map_shown}
 
 node_of_data : (o : Option (Node Look)) → option_map as_node (option_map data_of o) ≡ o

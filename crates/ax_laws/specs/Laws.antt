@@ -1,9 +1,7 @@
--- The laws of trees, updates and packets, over all trees, clients, marks, updates and journals.
-use Rattle.std.specs.Prelude.{ℕ, ◌≡◌, ◌≤◌, Bool, true, false, List, [], ◌∷◌, ◌++◌, map, filter, Option, Some, None, option_map, Result, Ok, Err}
-use Rattle.ax_node.specs.declared.node.NodeData.{NodeData}
-use Rattle.ax_node.specs.declared.tree_data.TreeData.{TreeData}
-use Rattle.ax_trees.specs.Trees.{IsTree, is_bare, has, height, root_of}
-use Rattle.ax_trees.specs.Nodes.{Node, node_at, tree_at, pre}
+-- The laws of updates, edits, bundles and packets, over all trees, clients, marks and journals.
+use Rattle.std.specs.Prelude.{ℕ, ◌≡◌, ◌≤◌, Bool, true, false, List, [], ◌∷◌, ◌++◌, map, filter, Some, None, Result, Ok, Err}
+use Rattle.ax_trees.specs.Trees.{IsTree, is_bare, has, height}
+use Rattle.ax_trees.specs.Nodes.{node_at, tree_at, pre}
 use Rattle.ax_trees.specs.Shape.{shape}
 use Rattle.ax_tree.specs.declared.edit.Edit.{Edit}
 use Rattle.ax_tree.specs.declared.packet.Packet.{Packet}
@@ -19,37 +17,12 @@ use Rattle.ax_tree.specs.Reach.{IsReached, FitsReached, IsClosed}
 use Rattle.ax_tree.specs.InStep.{lists}
 use Rattle.ax_tree.specs.Bundles.{Client, trees_after_all}
 use Rattle.ax_node.specs.Look.{Look, blank_look}
-use Rattle.ax_tree.specs.Tree.{Tree, IsWellFormed, empty, node, as_node}
+use Rattle.ax_tree.specs.Tree.{Tree, IsWellFormed, empty}
 use Rattle.ax_tree.specs.Edits.{edited, refusal, marks_after, flag_after}
 use Rattle.ax_tree.specs.Updates.{applied, applied_all}
 use Rattle.ax_tree.specs.Serialised.{InStep, update_of, client_after_update, marks_after_update, bundle_of, resumed_bundle}
 use Rattle.ax_tree.specs.Journals.{frame_of, pending, packet_at, packets_of, source_of}
 use Rattle.ax_tree.specs.Packets.{IsGood, Fits, head_of}
-use Rattle.ax_laws.specs.FiniteMap.{IsTreeMap}
-
--- ---- trees
-
--- a map from id to node data, as a map to nodes of trees
-abbrev pub node_map : (ℕ → Option NodeData) → ℕ → Option (Node Look)
-node_map m z = option_map as_node (m z)
-
--- Each well formed tree shows as a finite map of the written definition.
-abbrev pub EachTreeIsAFiniteMap : Type 0
-EachTreeIsAFiniteMap = (t : Tree) → IsWellFormed t → IsTreeMap (node_map (node t)) (root_of t.trees)
-
--- the well formed tree that a finite map tells
-pub record Told (about : TreeData) (m : ℕ → Option NodeData) (root : Option ℕ) : Type 0 where
-  pub tree : Tree
-  pub well_formed : IsWellFormed tree
-  pub about_same : tree.about ≡ about
-  pub root_same : root_of tree.trees ≡ root
-  pub nodes : (z : ℕ) → node tree z ≡ m z
-
--- Each such map is shown by one well formed tree, and by no other.
-abbrev pub EachFiniteMapIsOneTree : Type 0
-EachFiniteMapIsOneTree =
-    ((about : TreeData) (m : ℕ → Option NodeData) (root : Option ℕ) → IsTreeMap (node_map m) root → Told about m root)
-    × ((t q : Tree) → IsWellFormed t → IsWellFormed q → t.about ≡ q.about → root_of t.trees ≡ root_of q.trees → ((z : ℕ) → node t z ≡ node q z) → t ≡ q)
 
 -- ---- updates
 

@@ -1,4 +1,6 @@
 pub mod Merge
 pub mod NodeSteps
 pub mod FiniteMap
+pub mod TreeLaws
 pub mod Laws
+pub mod MarkLaws

@@ -1,11 +1,12 @@
 //! The laws of trees, updates and packets, over the definitions of `ax_tree` alone. Each is the contract of a function
-//! with an empty body; its statement stands in `specs/Laws.antt`.
+//! with an empty body; its statement stands in `specs/Laws.antt`, `specs/TreeLaws.antt` or `specs/MarkLaws.antt`.
 #![tactic(auto)]
 
-ghost use Rattle.ax_laws.specs.Laws.{EachTreeIsAFiniteMap, EachFiniteMapIsOneTree};
+ghost use Rattle.ax_laws.specs.TreeLaws.{EachTreeIsAFiniteMap, EachFiniteMapIsOneTree};
 ghost use Rattle.ax_laws.specs.Laws.{RefusalsSeeShapeAlone, EachUpdateIsAccepted, UpdateSeesParentsAlone, ListedAreReached, TestsAreSets};
 ghost use Rattle.ax_laws.specs.Laws.{EachUpdateKeepsStep, EachEditKeepsStep, EachTouchKeepsStep, EachDeliveryKeepsStep};
 ghost use Rattle.ax_laws.specs.Laws.{EachBundleGivesTheSource, BrokenBundleIsCompleted};
+ghost use Rattle.ax_laws.specs.MarkLaws.{EachBundleTakesAllMarks};
 ghost use Rattle.ax_laws.specs.Laws.{EachJournalKeepsStep, PacketsOfJournalAreGood, FrontOfGoodIsGood, PassLeavesLongerListFitting, OtherEntriesLeaveListFitting};
 
 /// Each well formed tree is a finite map of the written definition.
@@ -66,6 +67,11 @@ pub fn each_delivery_keeps_step()
 /// A bundle gives the source, and leaves no mark and no flag.
 pub fn each_bundle_gives_the_source()
     ensures { EachBundleGivesTheSource }
+{}
+
+/// The updates of a bundle take all marks.
+pub fn each_bundle_takes_all_marks()
+    ensures { EachBundleTakesAllMarks }
 {}
 
 /// A bundle that was broken off is completed.

@@ -1,5 +1,5 @@
 -- Journals of frames, worked out: which packets their passes make, and refusals of attributes.
-use Rattle.std.proofs.Common.{ℕ, ◌≡◌, true, false, List, [], ◌∷◌, map, refl, Option, None, Some}
+use Rattle.std.proofs.Common.{ℕ, ◌≡◌, true, false, List, [], ◌∷◌, map, refl, None, Some}
 use Rattle.ax_node.specs.Look.{blank_look, node_of}
 use Rattle.ax_node.specs.declared.node.NodeData.{NodeData}
 use Rattle.ax_node.specs.declared.value.Value.TheVariants.{Text}
@@ -13,7 +13,7 @@ use Rattle.ax_tree.specs.declared.packet.Packet.{Packet}
 use Rattle.ax_tree.specs.declared.update.TreeUpdate.{TreeUpdate}
 use Rattle.ax_tree.specs.Tree.{Tree, empty, blank_data}
 use Rattle.ax_tree.specs.Edits.{edited, refusal}
-use Rattle.ax_tree.specs.Journals.{frame_of, packets_of}
+use Rattle.ax_tree.specs.Journals.{is_short, packets_of}
 
 abbrev plain_node : ℕ → List ℕ → NodeData
 plain_node i children = node_of i blank_look children
@@ -66,10 +66,10 @@ delivery_resets : numbers_of (Edited root_one ∷ Passed ∷ Delivered (record {
 delivery_resets = refl
 
 -- want of memory is seen until a pass makes a packet
-short_until_packet : (frame_of 1 (Edited root_one ∷ Short ∷ [])).short ≡ true
+short_until_packet : is_short 1 (Edited root_one ∷ Short ∷ []) ≡ true
 short_until_packet = refl
 
-short_ends_with_packet : (frame_of 1 (Edited root_one ∷ Short ∷ Passed ∷ [])).short ≡ false
+short_ends_with_packet : is_short 1 (Edited root_one ∷ Short ∷ Passed ∷ []) ≡ false
 short_ends_with_packet = refl
 
 -- ---- attributes

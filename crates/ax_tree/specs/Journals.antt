@@ -103,6 +103,10 @@ frame_from t (e ∷ es) f = frame_from t es (after_entry t e f)
 abbrev pub frame_of : ℕ → List JEntry → Frame
 frame_of t journal = frame_from t journal (new_frame t)
 
+-- a pass has run out of memory since the last one that made a packet and the last delivery
+abbrev pub is_short : ℕ → List JEntry → Bool
+is_short t journal = (frame_of t journal).short
+
 -- the packet that a pass makes there, where nothing was kept
 abbrev pub packet_at : ℕ → Frame → Packet
 packet_at t f = record {
