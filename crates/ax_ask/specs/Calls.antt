@@ -1,0 +1,39 @@
+-- What the desks are asked, with which condition, and what their counts say.
+use Rattle.std.specs.Prelude.{◌≡◌, ◌+◌, ◌-◌, ◌^◌, ◌≤◌, ℕ, min, []}
+use Rattle.ax_tree.specs.declared.edit.Edit.{Edit}
+use Rattle.ax_tree.specs.declared.edit.Edit.TheVariants as edits
+use Rattle.ax_ask.specs.declared.op.FrameOp.{FrameOp}
+use Rattle.ax_ask.specs.declared.op.FrameOp.TheVariants as frames
+use Rattle.ax_ask.specs.declared.op.BrowserOp.{BrowserOp}
+use Rattle.ax_ask.specs.declared.op.BrowserOp.TheVariants as browsers
+
+-- the node data in an edit have no children
+abbrev pub HasLeaf : Edit → Type 0
+HasLeaf (edits.Root node) = node.children ≡ []
+HasLeaf (edits.Insert parent index node) = node.children ≡ []
+HasLeaf (edits.Remove node) = Unit {0}
+HasLeaf (edits.Move node parent index) = Unit {0}
+HasLeaf (edits.Set what) = Unit {0}
+HasLeaf (edits.Tree what) = Unit {0}
+
+abbrev pub IsLeafOp : FrameOp → Type 0
+IsLeafOp (frames.Edit e) = HasLeaf e
+IsLeafOp (frames.Touch node) = Unit {0}
+IsLeafOp (frames.TouchBelow node) = Unit {0}
+IsLeafOp frames.Pass = Unit {0}
+
+-- the tree that an operation of the browser is about
+abbrev pub tree_of : BrowserOp → ℕ
+tree_of (browsers.Ask tree) = tree
+tree_of (browsers.Destroy tree) = tree
+tree_of (browsers.Probe tree update) = tree
+
+-- a call of a browser's desk that gives a line
+pub data BrowserCall : Type 0 where
+  Receive : BrowserCall
+  Do : BrowserOp → BrowserCall
+  Deliver : ℕ → ℕ → BrowserCall
+
+-- the count rose, or stands at the last value of `u64`
+abbrev pub Rose : ℕ → ℕ → Type 0
+Rose before now = min (before + 1) (2 ^ 64 - 1) ≤ now

@@ -1,0 +1,19 @@
+//! What is asked of frames, of the browser and of readers, and the lines that answer.
+//!
+//! `FrameOp`, `BrowserOp`, `Query` and `Action` are what a script asks for, `Item` is one step of a run, and a `Line` is
+//! the answer to one step. It holds the values that its printed text shows. The desks are what a run asks.
+#![tactic(auto)]
+
+mod action;
+mod desk;
+mod line;
+mod op;
+mod query;
+mod reply;
+
+pub use action::{ActNote, Action, Actions, DoName, What};
+pub use desk::{BrowserDesk, FrameDesk, ReaderDesk};
+pub use line::{Line, Lines, MadeNote, OpName, PassNote, ProbeNote, UpdateNote, UpdateNotes};
+pub use op::{BrowserOp, FrameOp, FrameOps, Item, Items, TimedOp, TimedOps};
+pub use query::{Query, QueryName, TimedQueries, TimedQuery, Way};
+pub use reply::Reply;
