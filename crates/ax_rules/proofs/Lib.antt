@@ -3,6 +3,8 @@ pub mod ScriptWords
 pub mod Appends
 pub mod Tokens
 pub mod StitchedTreeLemmas
+pub mod Going
+pub mod Building
 pub mod OneNode
 pub mod ListOfParentAndNewChild
 pub mod NothingToSend

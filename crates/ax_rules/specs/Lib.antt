@@ -30,3 +30,4 @@ pub mod Dump
 pub mod ReplayText
 pub mod CombineText
 pub mod ActText
+pub mod Laws
