@@ -1,0 +1,55 @@
+-- The laws of histories and runs, over all scripts, orders and histories.
+use Rattle.std.specs.Prelude.{ℕ, ◌≡◌, ◌≤◌, ◌==◌, ◌&&◌, true, if◌then◌else◌, List, [], ◌∷◌, ◌++◌, Some}
+use Rattle.ax_tree.specs.declared.packet.Packet.{Packet}
+use Rattle.ax_tree.specs.declared.packet.HEntry.{HEntry}
+use Rattle.ax_tree.specs.declared.packet.HEntry.TheVariants.{Got}
+use Rattle.ax_tree.specs.Packets.{IsGood}
+use Rattle.ax_ask.specs.declared.op.Item.{Item}
+use Rattle.ax_rules.specs.Histories.{is_gone, token_of, got, verdict_at, applied_pass, is_applied}
+use Rattle.ax_rules.specs.Mirrors.{mirror_of, built_of}
+use Rattle.ax_rules.specs.States.{Run}
+use Rattle.ax_rules.specs.Steps.{run}
+
+-- a list begins with another
+pub record Begins {A : Type 0} (whole front : List A) : Type 0 where
+  pub rest : List A
+  pub joined : whole ≡ front ++ rest
+
+-- ---- no reader goes back
+
+-- the packet that one more entry applies to the tree t
+abbrev pub applied_by : ℕ → List HEntry → HEntry → List Packet
+applied_by t before (Got p) = if p.tree == t && is_applied (verdict_at before (applied_pass before t) p []) then p ∷ [] else []
+applied_by t before e = []
+
+abbrev pub changes_from : ℕ → List HEntry → List HEntry → List Packet
+changes_from t before [] = []
+changes_from t before (e ∷ es) = applied_by t before e ++ changes_from t (before ++ e ∷ []) es
+
+-- all packets that a history applies to t, in order
+abbrev pub changes_of : List HEntry → ℕ → List Packet
+changes_of h t = changes_from t [] h
+
+-- the history h has all that g had of t: nothing comes back, and what changed t goes on from there
+pub record GoesOn (g h : List HEntry) (t : ℕ) : Type 0 where
+  pub gone : is_gone g t ≡ true → is_gone h t ≡ true
+  pub token : token_of g t ≤ token_of h t
+  pub packets : Begins (got h t) (got g t)
+  pub changes : Begins (changes_of h t) (changes_of g t)
+  pub pass : IsGood t (got h t) → applied_pass g t ≤ applied_pass h t
+
+-- Each history goes on from each front of it.
+abbrev pub EachHistoryGoesOn : Type 0
+EachHistoryGoesOn = (front back : List HEntry) (t : ℕ) → GoesOn front (front ++ back) t
+
+-- Each run of an order goes on from the run of each front of it: so the history at a reader's query begins with that at the one before.
+abbrev pub EachRunGoesOn : Type 0
+EachRunGoesOn =
+    (front back : List Item) (from at to : Run) → run front from ≡ Some at → run (front ++ back) from ≡ Some to
+    → Begins to.state.history at.state.history × Begins to.lines at.lines
+
+-- ---- bundles give the sources
+
+-- Where a tree's received packets are good, what the applied bundles build is the source at the last applied pass.
+abbrev pub BundlesGiveTheSource : Type 0
+BundlesGiveTheSource = (h : List HEntry) (t : ℕ) → IsGood t (got h t) → built_of h t ≡ mirror_of h t
