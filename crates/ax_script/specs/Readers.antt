@@ -1,0 +1,16 @@
+-- The readers' queries.
+use Rattle.std.specs.Prelude.{◌≡◌, ℕ, List, [], nat_le, if◌then◌else◌, Result, Ok, Err}
+use Rattle.serde_json.specs.Data.{Data}
+use Rattle.serde_json.specs.Events.{items_len}
+use Rattle.ax_attrs.specs.declared.table.Version.{Version}
+use Rattle.ax_ask.specs.declared.query.TimedQuery.{TimedQuery}
+use Rattle.ax_walk.specs.declared.refusal.Fault.TheVariants.{BadCount}
+use Rattle.ax_walk.specs.Refused.{Refusal, ◌>>=◌}
+use Rattle.ax_walk.specs.Walk.{refused, array_of, list_of, each}
+use Rattle.ax_shapes.specs.Queries.{query_of}
+
+-- at most 16 readers
+unfoldable pub readers_of : Version → Data → Result (List (List TimedQuery)) Refusal
+readers_of version d = do
+  items ← array_of d
+  if nat_le (items_len items) 16 then each (list_of (query_of version)) 0 items else refused BadCount []

@@ -1,0 +1,21 @@
+//! Scripts: what a run is asked for, and how it is read from bytes.
+//!
+//! `read_script` gives exactly what the definition `script` of `specs/Script.antt` says: the script that the bytes are, or
+//! the first refusal with its place. It reads in the size of the bytes. The JSON value is taken apart as it is read, so a
+//! part of it is freed once its part of the script stands.
+#![tactic(auto)]
+
+mod action;
+mod browser;
+mod draft;
+mod error;
+mod frame;
+mod order;
+mod read;
+mod reader;
+mod script;
+mod trees;
+
+pub use error::ScriptErr;
+pub use read::read_script;
+pub use script::{FrameScript, FrameScripts, ReaderScripts, Script};
