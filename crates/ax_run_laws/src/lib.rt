@@ -1,0 +1,10 @@
+//! The laws of whole runs, over the definitions of `ax_rules` and the laws of packets. Each is the contract of a function
+//! with an empty body; its statement stands in `specs/Laws.antt`.
+#![tactic(auto)]
+
+ghost use Rattle.ax_run_laws.specs.Laws.{EachRunHasItsPackets};
+
+/// In each run each tree's packets are those of its frame's journal, and so they are good.
+pub fn each_run_has_its_packets()
+    ensures { EachRunHasItsPackets }
+{}
