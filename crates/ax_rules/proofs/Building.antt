@@ -189,7 +189,7 @@ record Applies (h : List HEntry) (p : Packet) : Type 0 where
   before : built_of h p.tree ≡ mirror_of h p.tree
   accepted : applied_all p.bundle (if p.base.0 == 0 then empty p.tree else built_of h p.tree) ≡ Ok (mirror_of (h ++ Got p ∷ []) p.tree)
 
-abbrev Open : List HEntry → Packet → Type 0
+abbrev pub Open : List HEntry → Packet → Type 0
 Open h p =
     (is_gone h p.tree ≡ false) × (not (p.token.0 == token_of h p.tree) ≡ false) × (not (p.base.0 == 0 || p.base.0 == applied_pass h p.tree) ≡ false)
 
@@ -205,7 +205,7 @@ pass_of_open h p o = rw (o.0, o.1, o.2) refl
 same_tree : (t : ℕ) → (t == t) ≡ true
 same_tree t = grind arith
 
-pass_then : (h : List HEntry) (p : Packet) → Open h p → applied_pass (h ++ Got p ∷ []) p.tree ≡ p.pass.0
+pub pass_then : (h : List HEntry) (p : Packet) → Open h p → applied_pass (h ++ Got p ∷ []) p.tree ≡ p.pass.0
 pass_then h p o =
     applied_pass-append h (Got p) p.tree
     ∙ (ap (λ b. if b then pass_after (applied_pass h p.tree) (verdict_at h (applied_pass h p.tree) p []) else applied_pass h p.tree) (same_tree p.tree) ∙ pass_of_open h p o)

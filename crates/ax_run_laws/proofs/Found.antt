@@ -1,5 +1,5 @@
 -- Frames found by their trees in a list, before and after one of them is replaced.
-use Rattle.std.proofs.Common.{ℕ, ◌≡◌, ◌==◌, Bool, true, false, if◌then◌else◌, List, [], ◌∷◌, map, find, sym, refl, ap, ◌∙◌, Option, Some, arith}
+use Rattle.std.proofs.Common.{ℕ, ◌≡◌, ◌==◌, Bool, true, false, if◌then◌else◌, List, [], ◌∷◌, map, find, sym, refl, ap, ◌∙◌, subst, Some, arith}
 use Rattle.std.proofs.lemmas.Bool.{eqb-true}
 use Rattle.ax_rules.specs.States.{FrameRun}
 
@@ -44,3 +44,14 @@ same_in f g (x ∷ fs) h = go (x.tree == f.tree) refl (λ k. same_in f g fs k) h
         → (if (if b then f else x).tree == f.tree then Some (if b then f else x) else find (of_tree f.tree) (map (replaced f) fs)) ≡ Some f
     go true e ih k = ap (λ b. if b then Some f else find (of_tree f.tree) (map (replaced f) fs)) (same_number f.tree)
     go false e ih k = rw e (ih k)
+
+-- what holds of the new frame, and of the other trees' frames, holds of all that are found
+pub each_found : (P : ℕ → FrameRun → Type 0) (f g : FrameRun) (fs : List FrameRun) → find (of_tree f.tree) fs ≡ Some g → P f.tree f
+    → ((t : ℕ) (x : FrameRun) → (f.tree == t) ≡ false → find (of_tree t) fs ≡ Some x → P t x) → (t : ℕ) (x : FrameRun) → find (of_tree t) (map (replaced f) fs) ≡ Some x → P t x
+each_found P f g fs found new others t x h = go (f.tree == t) refl
+  where
+    go : (b : Bool) → (f.tree == t) ≡ b → P t x
+    go true e =
+        subst (λ u. (y : FrameRun) → find (of_tree u) (map (replaced f) fs) ≡ Some y → P u y) (eqb-true f.tree t e)
+        (λ y w. subst (λ z. P f.tree z) (some_same f y (sym (same_in f g fs found) ∙ w)) new) x h
+    go false e = others t x e (sym (other_in f t fs e) ∙ h)

@@ -1,13 +1,13 @@
 -- In each run the packets received and waiting are those of the frames' journals.
-use Rattle.std.proofs.Common.{ℕ, zero, suc, ◌≡◌, ◌==◌, Bool, true, false, if◌then◌else◌, List, [], ◌∷◌, ◌++◌, map, find, refl, sym, ap, ◌∙◌, subst, Option, Some, None, arith, append_assoc, append-nil, option_and_then, option_map, option_to_list, slice_get}
-use Rattle.std.proofs.lemmas.Bool.{false≢true, eqb-true}
+use Rattle.std.proofs.Common.{ℕ, zero, suc, ◌≡◌, ◌==◌, Bool, true, false, if◌then◌else◌, List, [], ◌∷◌, ◌++◌, map, find, refl, sym, ap, ◌∙◌, subst, Option, Some, None, append_assoc, append-nil, option_and_then, option_map, option_to_list, slice_get}
+use Rattle.std.proofs.lemmas.Bool.{eqb-true}
 use Rattle.ax_tree.specs.declared.packet.Packet.{Packet}
 use Rattle.ax_tree.specs.declared.packet.JEntry.{JEntry}
 use Rattle.ax_tree.specs.declared.packet.JEntry.TheVariants as entries
 use Rattle.ax_tree.specs.declared.packet.HEntry.{HEntry}
 use Rattle.ax_tree.specs.declared.packet.HEntry.TheVariants.{Got, Asked, Ended, Probed}
 use Rattle.ax_tree.specs.Journals.{Frame, new_frame, frame_of, pending, packet_at, made_at, packets_of}
-use Rattle.ax_tree.specs.Packets.{IsGood, Fits}
+use Rattle.ax_tree.specs.Packets.{Fits}
 use Rattle.ax_ask.specs.declared.op.FrameOp.{FrameOp}
 use Rattle.ax_ask.specs.declared.op.FrameOp.TheVariants as ops
 use Rattle.ax_ask.specs.declared.op.BrowserOp.{BrowserOp}
@@ -16,9 +16,9 @@ use Rattle.ax_ask.specs.declared.op.TimedOp.{TimedOp}
 use Rattle.ax_ask.specs.declared.op.Item.{Item}
 use Rattle.ax_ask.specs.declared.op.Item.TheVariants as items
 use Rattle.ax_ask.specs.declared.query.TimedQuery.{TimedQuery}
-use Rattle.ax_rules.specs.Histories.{got, packet_in}
+use Rattle.ax_rules.specs.Histories.{got}
 use Rattle.ax_rules.specs.Scripts.{Script, FrameScript}
-use Rattle.ax_rules.specs.States.{FrameRun, State, Run, start, begin, frame_now, find_frame, with_frame}
+use Rattle.ax_rules.specs.States.{FrameRun, Run, start, begin, frame_now, find_frame, with_frame}
 use Rattle.ax_rules.specs.FrameSteps.{entry_of, packet_now, sent_by, do_op}
 use Rattle.ax_rules.specs.Steps.{do_receive, do_ask, do_browser, do_deliver, do_query, do_next_op, do_oldest, do_next_browser, do_next_query, do_reader, step, run}
 use Rattle.ax_rules.proofs.Appends.{got-append}
@@ -56,16 +56,18 @@ held_with fs f g h k held found new same = record { at = λ t x e. go t x (f.tre
 
 -- an entry that is no packet
 held_entry : (fs : List FrameRun) (h : List HEntry) (e : HEntry) → ((t : ℕ) → got (e ∷ []) t ≡ []) → Held fs h → Held fs (h ++ e ∷ [])
-held_entry fs h e none held = record { at = λ t f q. let old = held.at t f q in record {
-  packets = ap (λ l. l ++ f.waiting) (got-append h (e ∷ []) t ∙ (ap (λ l. got h t ++ l) (none t) ∙ append-nil (got h t))) ∙ old.packets;
-  waiting = old.waiting;
-} }
+held_entry fs h e none held = record {
+  at = λ t f q. let old = held.at t f q in record {
+    packets = ap (λ l. l ++ f.waiting) (got-append h (e ∷ []) t ∙ (ap (λ l. got h t ++ l) (none t) ∙ append-nil (got h t))) ∙ old.packets;
+    waiting = old.waiting;
+  };
+}
 
-got_own : (p : Packet) (t : ℕ) → p.tree ≡ t → got (Got p ∷ []) t ≡ p ∷ []
+pub got_own : (p : Packet) (t : ℕ) → p.tree ≡ t → got (Got p ∷ []) t ≡ p ∷ []
 unfolding got
 got_own p t e = let q : (p.tree == t) ≡ true = ap (λ u. u == t) e ∙ same_number t in rw q refl
 
-got_other : (p : Packet) (t : ℕ) → (p.tree == t) ≡ false → got (Got p ∷ []) t ≡ []
+pub got_other : (p : Packet) (t : ℕ) → (p.tree == t) ≡ false → got (Got p ∷ []) t ≡ []
 unfolding got
 got_other p t e = rw e refl
 
@@ -75,7 +77,7 @@ pending_made : (b : Bool) (p : Packet) → option_to_list (if b then Some p else
 pending_made true p = refl
 pending_made false p = refl
 
-sent_made : (t : ℕ) (f : Frame) (op : FrameOp) → sent_by t f op ≡ made_at t (entry_of op) f
+pub sent_made : (t : ℕ) (f : Frame) (op : FrameOp) → sent_by t f op ≡ made_at t (entry_of op) f
 unfolding packet_now
 sent_made t f (ops.Edit e) = refl
 sent_made t f (ops.Touch z) = refl
@@ -104,19 +106,19 @@ entry_held h t f e made left m old = record {
   waiting = all_of_both t f.waiting made old.waiting (subst (λ l. AllOf t l) (sym m) (made_of t (frame_of t f.journal) e));
 }
 
-abbrev AllHeld : Option Run → Type 0
+abbrev pub AllHeld : Option Run → Type 0
 AllHeld None = Unit {0}
 AllHeld (Some r) = Held r.state.frames r.state.history
 
 -- f is the frame of its tree in the run
-record Found (r : Run) (f : FrameRun) : Type 0 where
-  there : find (of_tree f.tree) r.state.frames ≡ Some f
-  held : Held r.state.frames r.state.history
+pub record Found (r : Run) (f : FrameRun) : Type 0 where
+  pub there : find (of_tree f.tree) r.state.frames ≡ Some f
+  pub held : Held r.state.frames r.state.history
 
-found_there : (r : Run) (t : ℕ) (f : FrameRun) → find (of_tree t) r.state.frames ≡ Some f → Held r.state.frames r.state.history → Found r f
+pub found_there : (r : Run) (t : ℕ) (f : FrameRun) → find (of_tree t) r.state.frames ≡ Some f → Held r.state.frames r.state.history → Found r f
 found_there r t f e h = record { there = ap (λ u. find (of_tree u) r.state.frames) (found_in t r.state.frames f e) ∙ e; held = h }
 
-op_held : (r : Run) (f : FrameRun) (os : List FrameOp) → Found r f → AllHeld (do_next_op r f os)
+pub op_held : (r : Run) (f : FrameRun) (os : List FrameOp) → Found r f → AllHeld (do_next_op r f os)
 unfolding do_op with_frame frame_now
 op_held r f [] x = tt
 op_held r f (op ∷ left) x =
@@ -127,7 +129,7 @@ op_held r f (op ∷ left) x =
 
 -- ---- receipts
 
-receive_held : (r : Run) (f : FrameRun) (ps : List Packet) → f.waiting ≡ ps → Found r f → AllHeld (do_oldest r f ps)
+pub receive_held : (r : Run) (f : FrameRun) (ps : List Packet) → f.waiting ≡ ps → Found r f → AllHeld (do_oldest r f ps)
 unfolding do_receive with_frame
 receive_held r f [] e x = tt
 receive_held r f (p ∷ ps) e x =
@@ -145,7 +147,7 @@ receive_held r f (p ∷ ps) e x =
 
 -- ---- the browser, deliveries, queries
 
-browser_op_held : (r : Run) (o : BrowserOp) → Held r.state.frames r.state.history → Held (do_browser r o).state.frames (do_browser r o).state.history
+pub browser_op_held : (r : Run) (o : BrowserOp) → Held r.state.frames r.state.history → Held (do_browser r o).state.frames (do_browser r o).state.history
 unfolding do_browser do_ask got
 browser_op_held r (browsers.Ask t) h = held_entry r.state.frames r.state.history (Asked t) (λ u. refl) h
 browser_op_held r (browsers.Destroy t) h = held_entry r.state.frames r.state.history (Ended t) (λ u. refl) h
@@ -161,7 +163,7 @@ same_waiting h t f j old = record {
   waiting = subst (λ l. AllOf t l) (append-nil f.waiting) old.waiting;
 }
 
-delivery_held : (r : Run) (f : FrameRun) (n : ℕ) → Found r f → Held (do_deliver r f n).state.frames (do_deliver r f n).state.history
+pub delivery_held : (r : Run) (f : FrameRun) (n : ℕ) → Found r f → Held (do_deliver r f n).state.frames (do_deliver r f n).state.history
 unfolding do_deliver with_frame
 delivery_held r f n x =
     let e = entries.Delivered (record { 0 = n }) in
@@ -185,11 +187,11 @@ reader_held r (suc k) h = go (slice_get r.state.readers k)
 -- ---- steps and runs
 
 -- with the frame that is found, if one is
-with_found : (r : Run) (o : Option FrameRun) (g : FrameRun → Option Run) → ((f : FrameRun) → o ≡ Some f → AllHeld (g f)) → AllHeld (option_and_then g o)
+pub with_found : (r : Run) (o : Option FrameRun) (g : FrameRun → Option Run) → ((f : FrameRun) → o ≡ Some f → AllHeld (g f)) → AllHeld (option_and_then g o)
 with_found r None g h = tt
 with_found r (Some f) g h = h f refl
 
-mapped_found : (r : Run) (o : Option FrameRun) (g : FrameRun → Run) → ((f : FrameRun) → o ≡ Some f → AllHeld (Some (g f))) → AllHeld (option_map g o)
+pub mapped_found : (r : Run) (o : Option FrameRun) (g : FrameRun → Run) → ((f : FrameRun) → o ≡ Some f → AllHeld (Some (g f))) → AllHeld (option_map g o)
 mapped_found r None g h = tt
 mapped_found r (Some f) g h = h f refl
 
