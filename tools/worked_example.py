@@ -271,7 +271,7 @@ def used(body, word):
 
 def example(title, command, script, out):
     module, call, term = CALLS[command]
-    body = f"abbrev script : Script\nscript = {script_term(script)}\n"
+    body = f"abbrev pub script : Script\nscript = {script_term(script)}\n"
     body += f"\nthe_text : {term} ≡ Some (\n    {expected(out)})\nunfolding computing\nthe_text = refl\n"
     head = [f"-- {title}"]
     for name, words in IMPORTS:

@@ -8,7 +8,7 @@ use Rattle.ax_rules.specs.ActText.{act_text}
 use Rattle.ax_rules.proofs.Computing.{computing}
 use Rattle.ax_rules.proofs.ScriptWords.{blank, root, insert, action, frame, frames}
 
-abbrev script : Script
+abbrev pub script : Script
 script = record (frames (
     frame 1 (
     root (blank 1) ∷

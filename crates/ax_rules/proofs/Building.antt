@@ -1,19 +1,22 @@
 -- Where a tree's packets are good, the applied bundles build the sources, and the applied passes rise.
-use Rattle.std.proofs.Common.{ℕ, suc, ◌≡◌, ◌≤◌, ◌==◌, ◌⊎◌, inl, inr, not, Bool, true, false, cond, ◌||◌, if◌then◌else◌, List, [], ◌∷◌, ◌++◌, length, slice_get, refl, sym, ap, ◌∙◌, subst, Option, Some, None, arith, append_assoc, append-nil, filter_map, le_trans, le_refl, Ok}
+use Rattle.std.proofs.Common.{ℕ, suc, ◌≡◌, ◌≤◌, ◌==◌, ◌⊎◌, inl, inr, not, Bool, true, false, cond, ◌||◌, if◌then◌else◌, List, [], ◌∷◌, ◌++◌, length, slice_get, refl, sym, ap, ◌∙◌, subst, ap₂, Option, Some, None, arith, append_assoc, append-nil, filter_map, flat_map, le_trans, le_refl, Ok}
 use Rattle.std.proofs.lemmas.Bool.{false≢true, eqb-true}
+use Rattle.std.proofs.lemmas.List.{take-append-le}
 use Rattle.ax_base.specs.declared.pass.PassNo.{PassNo}
 use Rattle.ax_base.specs.declared.pass.Token.{Token}
 use Rattle.ax_tree.specs.declared.packet.Packet.{Packet}
 use Rattle.ax_tree.specs.declared.packet.HEntry.{HEntry}
 use Rattle.ax_tree.specs.declared.packet.HEntry.TheVariants.{Got, Asked, Ended, Probed}
 use Rattle.ax_tree.specs.declared.update.TreeUpdate.{TreeUpdate}
+use Rattle.ax_tree.specs.declared.verdict.Event.{Event}
 use Rattle.ax_tree.specs.declared.verdict.Verdict.{Verdict}
 use Rattle.ax_tree.specs.declared.verdict.Verdict.TheVariants.{Applied, Stale, Gap, Gone}
 use Rattle.ax_tree.specs.Tree.{Tree, empty}
 use Rattle.ax_tree.specs.Updates.{applied_all}
-use Rattle.ax_tree.specs.Packets.{GoodAt, IsGood, source_at}
-use Rattle.ax_rules.specs.Histories.{is_gone, token_of, got, packet_in, verdict_at, pass_after, at_after, applied_pass}
-use Rattle.ax_rules.specs.Mirrors.{tree_or, built_by, built_or, built_after, built_of, mirror_of}
+use Rattle.ax_tree.specs.Packets.{GoodAt, IsGood, source_at, edited_all}
+use Rattle.ax_rules.specs.Histories.{is_gone, token_of, got, packet_in, verdict_at, pass_after, at_after, applied_pass, is_applied}
+use Rattle.ax_rules.specs.Mirrors.{tree_or, built_by, built_or, built_after, built_of, mirror_of, verdict_of, built_verdict_of}
+use Rattle.ax_rules.specs.Events.{events_of}
 use Rattle.ax_rules.proofs.Appends.{got-append, applied_pass-append, built-append}
 
 -- ---- one packet
@@ -174,3 +177,92 @@ bundles_build h t good = (stands_after t (got h t) h [] good (sym (append-nil (g
 pub passes_rise : (front back : List HEntry) (t : ℕ) → IsGood t (got (front ++ back) t) → applied_pass front t ≤ applied_pass (front ++ back) t
 passes_rise front back t good =
     (walk t (got (front ++ back) t) front back [] good (sym (append-nil (got (front ++ back) t))) (stands_after t (got (front ++ back) t) front (got back t) good (got-append front back t))).rises
+
+-- ---- the verdicts of both forests
+
+-- the source at a pass sees the packets up to it alone
+source_at-front : (t : ℕ) (xs ys : List Packet) (n : ℕ) → n ≤ length xs → source_at t (xs ++ ys) n ≡ source_at t xs n
+source_at-front t xs ys n h = ap (λ l. edited_all (flat_map (λ (p : Packet). p.slip) l) (empty t)) (take-append-le n xs ys h)
+
+-- where a packet is applied: what it builds, and the last applied pass after it
+record Applies (h : List HEntry) (p : Packet) : Type 0 where
+  before : built_of h p.tree ≡ mirror_of h p.tree
+  accepted : applied_all p.bundle (if p.base.0 == 0 then empty p.tree else built_of h p.tree) ≡ Ok (mirror_of (h ++ Got p ∷ []) p.tree)
+
+abbrev pub Open : List HEntry → Packet → Type 0
+Open h p =
+    (is_gone h p.tree ≡ false) × (not (p.token.0 == token_of h p.tree) ≡ false) × (not (p.base.0 == 0 || p.base.0 == applied_pass h p.tree) ≡ false)
+
+good_accepted : (t : ℕ) (all : List Packet) (p : Packet) (old : Tree) (at k : ℕ) → GoodAt t all k p → old ≡ source_at t all at
+    → not (p.base.0 == 0 || p.base.0 == at) ≡ false → applied_all p.bundle (if p.base.0 == 0 then empty t else old) ≡ Ok (source_at t all (suc k))
+good_accepted t all p old at k good h gap =
+    same_start (p.base.0 == 0) p.bundle (empty t) old (source_at t all k) (source_at t all (suc k)) (λ z. h ∙ ap (source_at t all) (base_is p.base.0 at k gap z good.base)) good.gives
+
+pass_of_open : (h : List HEntry) (p : Packet) → Open h p → pass_after (applied_pass h p.tree) (verdict_at h (applied_pass h p.tree) p []) ≡ p.pass.0
+unfolding verdict_at
+pass_of_open h p o = rw (o.0, o.1, o.2) refl
+
+same_tree : (t : ℕ) → (t == t) ≡ true
+same_tree t = grind arith
+
+pub pass_then : (h : List HEntry) (p : Packet) → Open h p → applied_pass (h ++ Got p ∷ []) p.tree ≡ p.pass.0
+pass_then h p o =
+    applied_pass-append h (Got p) p.tree
+    ∙ (ap (λ b. if b then pass_after (applied_pass h p.tree) (verdict_at h (applied_pass h p.tree) p []) else applied_pass h p.tree) (same_tree p.tree) ∙ pass_of_open h p o)
+
+got_then : (h : List HEntry) (p : Packet) → got (h ++ Got p ∷ []) p.tree ≡ got h p.tree ++ p ∷ []
+got_then h p = got_one h (Got p) p.tree ∙ ap (λ l. got h p.tree ++ l) (got_kept p.tree p ∙ ap (λ b. kept b p) (same_tree p.tree))
+
+-- the packet after those received so far
+open_applies : (h : List HEntry) (p : Packet) (all : List Packet) → all ≡ got h p.tree ++ p ∷ [] → IsGood p.tree all → Open h p → Applies h p
+unfolding mirror_of
+open_applies h p all e good o =
+    let t = p.tree in
+    let s = stands_after t all h (p ∷ []) good e in
+    let k = length (got h t) in
+    let g = good.at k p (ap (λ l. slice_get l k) (e ∙ sym (append-nil (got h t ++ p ∷ []))) ∙ slice_get-middle (got h t) [] p) in
+    record {
+      before = s.built ∙ (ap (λ l. source_at t l (applied_pass h t)) e ∙ source_at-front t (got h t) (p ∷ []) (applied_pass h t) s.low);
+      accepted =
+          good_accepted t all p (built_of h t) (applied_pass h t) k g s.built o.2
+          ∙ ap Ok (ap (source_at t all) (sym g.pass ∙ sym (pass_then h p o)) ∙ ap (λ l. source_at t l (applied_pass (h ++ Got p ∷ []) t)) (e ∙ sym (got_then h p)));
+    }
+
+told_alike : (gone stale gap : Bool) (had want : Token) (base last pass : PassNo) (es fs : List Event) → (gone ≡ false → stale ≡ false → gap ≡ false → es ≡ fs)
+    → cond gone Gone (cond stale (Stale had want) (cond gap (Gap base last) (Applied pass es))) ≡ cond gone Gone (cond stale (Stale had want) (cond gap (Gap base last) (Applied pass fs)))
+told_alike true stale gap had want base last pass es fs h = refl
+told_alike false true gap had want base last pass es fs h = refl
+told_alike false false true had want base last pass es fs h = refl
+told_alike false false false had want base last pass es fs h = ap (Applied pass) (h refl refl refl)
+
+built_then : (h : List HEntry) (p : Packet) → Applies h p → built_by p (built_of h p.tree) ≡ mirror_of (h ++ Got p ∷ []) p.tree
+unfolding built_by
+built_then h p a = ap (tree_or (built_of h p.tree)) a.accepted
+
+-- where the packets received and p are good, the forest that builds and the one of mirrors have the same verdict
+pub verdicts_agree : (h : List HEntry) (p : Packet) → IsGood p.tree (got h p.tree ++ p ∷ []) → built_verdict_of h p ≡ verdict_of h p
+unfolding verdict_of built_verdict_of verdict_at
+verdicts_agree h p good =
+    told_alike (is_gone h p.tree) (not (p.token.0 == token_of h p.tree)) (not (p.base.0 == 0 || p.base.0 == applied_pass h p.tree))
+    p.token (record { 0 = token_of h p.tree }) p.base (record { 0 = applied_pass h p.tree }) p.pass
+    (events_of (built_of h p.tree) (built_by p (built_of h p.tree))) (events_of (mirror_of h p.tree) (mirror_of (h ++ Got p ∷ []) p.tree))
+    (λ a b c. let x = open_applies h p (got h p.tree ++ p ∷ []) refl good (a, b, c) in ap₂ (λ old new. events_of old new) x.before (built_then h p x))
+
+opened : (gone stale gap : Bool) (had want : Token) (base last pass : PassNo) (es : List Event)
+    → is_applied (cond gone Gone (cond stale (Stale had want) (cond gap (Gap base last) (Applied pass es)))) ≡ true → (gone ≡ false) × (stale ≡ false) × (gap ≡ false)
+unfolding is_applied
+opened true stale gap had want base last pass es h = absurd (false≢true h)
+opened false true gap had want base last pass es h = absurd (false≢true h)
+opened false false true had want base last pass es h = absurd (false≢true h)
+opened false false false had want base last pass es h = (refl, refl, refl)
+
+open_where_applied : (h : List HEntry) (p : Packet) → is_applied (verdict_of h p) ≡ true → Open h p
+unfolding verdict_of verdict_at
+open_where_applied h p a =
+    opened (is_gone h p.tree) (not (p.token.0 == token_of h p.tree)) (not (p.base.0 == 0 || p.base.0 == applied_pass h p.tree))
+    p.token (record { 0 = token_of h p.tree }) p.base (record { 0 = applied_pass h p.tree }) p.pass (events_of (mirror_of h p.tree) (mirror_of (h ++ Got p ∷ []) p.tree)) a
+
+-- and a bundle that is to be applied is accepted
+pub applied_accepted : (h : List HEntry) (p : Packet) → IsGood p.tree (got h p.tree ++ p ∷ []) → is_applied (verdict_of h p) ≡ true
+    → applied_all p.bundle (if p.base.0 == 0 then empty p.tree else built_of h p.tree) ≡ Ok (mirror_of (h ++ Got p ∷ []) p.tree)
+applied_accepted h p good a = (open_applies h p (got h p.tree ++ p ∷ []) refl good (open_where_applied h p a)).accepted

@@ -8,7 +8,7 @@ use Rattle.ax_rules.specs.CombineText.{combine_text}
 use Rattle.ax_rules.proofs.Computing.{computing}
 use Rattle.ax_rules.proofs.ScriptWords.{no_area, node, blank, having, root, insert, no_data, about, frame, frames}
 
-abbrev script : Script
+abbrev pub script : Script
 script = frames (
     frame 1 (
     root (blank 1) ∷

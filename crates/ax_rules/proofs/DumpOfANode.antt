@@ -8,7 +8,7 @@ use Rattle.ax_rules.specs.ReplayText.{replay_text}
 use Rattle.ax_rules.proofs.Computing.{computing}
 use Rattle.ax_rules.proofs.ScriptWords.{area, node, root, frame, frames}
 
-abbrev script : Script
+abbrev pub script : Script
 script = frames (
     frame 1 (
     root (node 1 7 (1 ∷ 7 ∷ []) ((1, (values.Text (codes "a\"b"))) ∷ (8, (values.Int (pos 3))) ∷ []) (area (pos 1) (pos 2) (pos 3) (pos 4)) []) ∷

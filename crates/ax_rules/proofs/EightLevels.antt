@@ -10,7 +10,7 @@ use Rattle.ax_rules.specs.ReplayText.{replay_text}
 use Rattle.ax_rules.proofs.Computing.{computing}
 use Rattle.ax_rules.proofs.ScriptWords.{having, root, no_data, about, asked, place, text_at, frame, frames}
 
-abbrev script : Script
+abbrev pub script : Script
 script = record (frames (
     frame 1 (
     about (record no_data { parent = Some None; focus = Some (Some 1) }) ∷

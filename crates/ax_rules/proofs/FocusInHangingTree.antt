@@ -10,7 +10,7 @@ use Rattle.ax_rules.specs.ReplayText.{replay_text}
 use Rattle.ax_rules.proofs.Computing.{computing}
 use Rattle.ax_rules.proofs.ScriptWords.{no_area, node, blank, root, insert, set_attrs, change, no_data, about, after, asked, f, a, b, r, frame, frames}
 
-abbrev script : Script
+abbrev pub script : Script
 script = record (frames (
     frame 1 (
     about (record no_data { focus = Some (Some 2) }) ∷

@@ -41,3 +41,5 @@ pub mod ActionOnGoneTree
 pub mod ProbesRefused
 pub mod ProbeAccepted
 pub mod EightLevels
+pub mod Orders
+pub mod Forests

@@ -8,7 +8,7 @@ use Rattle.ax_rules.specs.ReplayText.{replay_text}
 use Rattle.ax_rules.proofs.Computing.{computing}
 use Rattle.ax_rules.proofs.ScriptWords.{no_area, node, root, set, change, frame, frames}
 
-abbrev script : Script
+abbrev pub script : Script
 script = frames (
     frame 1 (
     root (node 1 1 (11 ∷ []) [] no_area []) ∷

@@ -7,7 +7,7 @@ use Rattle.ax_rules.specs.ReplayText.{replay_text}
 use Rattle.ax_rules.proofs.Computing.{computing}
 use Rattle.ax_rules.proofs.ScriptWords.{blank, root, insert, move, frame, frames}
 
-abbrev script : Script
+abbrev pub script : Script
 script = frames (
     frame 1 (
     root (blank 1) ∷

@@ -11,7 +11,7 @@ use Rattle.ax_rules.specs.ReplayText.{replay_text}
 use Rattle.ax_rules.proofs.Computing.{computing}
 use Rattle.ax_rules.proofs.ScriptWords.{area, node, root, insert, set_attrs, change, no_data, about, after, asked, point, text_at, f, a, b, r, frame, frames}
 
-abbrev script : Script
+abbrev pub script : Script
 script = record (frames (
     frame 1 (
     about (record no_data { title = Some (codes "News"); url = Some (codes "https://news.example/") }) ∷

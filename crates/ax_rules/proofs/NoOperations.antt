@@ -6,7 +6,7 @@ use Rattle.ax_rules.specs.ReplayText.{replay_text}
 use Rattle.ax_rules.proofs.Computing.{computing}
 use Rattle.ax_rules.proofs.ScriptWords.{frame, frames}
 
-abbrev script : Script
+abbrev pub script : Script
 script = frames (
     frame 1 (
     []) ∷

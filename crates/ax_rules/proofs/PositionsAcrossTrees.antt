@@ -12,7 +12,7 @@ use Rattle.ax_rules.specs.ReplayText.{replay_text}
 use Rattle.ax_rules.proofs.Computing.{computing}
 use Rattle.ax_rules.proofs.ScriptWords.{no_area, node, blank, having, root, insert, no_data, about, asked, text_at, frame, frames}
 
-abbrev script : Script
+abbrev pub script : Script
 script = record (frames (
     frame 1 (
     root (blank 1) ∷

@@ -13,7 +13,7 @@ use Rattle.ax_rules.specs.ReplayText.{replay_text}
 use Rattle.ax_rules.proofs.Computing.{computing}
 use Rattle.ax_rules.proofs.ScriptWords.{blank, having, root, insert, asked, child_at, text_at, frame, frames}
 
-abbrev script : Script
+abbrev pub script : Script
 script = record (frames (
     frame 1 (
     root (blank 1) ∷

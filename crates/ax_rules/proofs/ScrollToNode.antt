@@ -10,7 +10,7 @@ use Rattle.ax_rules.specs.ActText.{act_text}
 use Rattle.ax_rules.proofs.Computing.{computing}
 use Rattle.ax_rules.proofs.ScriptWords.{area, node, root, insert, set_attrs, change, asked, place, point, action, f, a, r, frame, frames}
 
-abbrev script : Script
+abbrev pub script : Script
 script = record (frames (
     frame 1 (
     root (node 1 1 [] ((14, (values.Flag true)) ∷ []) (area (pos 0) (pos 0) (pos 100) (pos 100)) []) ∷

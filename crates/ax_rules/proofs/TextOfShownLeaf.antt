@@ -10,7 +10,7 @@ use Rattle.ax_rules.specs.ReplayText.{replay_text}
 use Rattle.ax_rules.proofs.Computing.{computing}
 use Rattle.ax_rules.proofs.ScriptWords.{no_area, node, having, root, insert, asked, place, text_at, frame, frames}
 
-abbrev script : Script
+abbrev pub script : Script
 script = record (frames (
     frame 1 (
     root (having 1 ((1, (values.Text (codes "x"))) ∷ [])) ∷

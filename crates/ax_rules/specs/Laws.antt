@@ -1,12 +1,14 @@
 -- The laws of histories and runs, over all scripts, orders and histories.
-use Rattle.std.specs.Prelude.{ℕ, ◌≡◌, ◌≤◌, ◌==◌, ◌&&◌, true, if◌then◌else◌, List, [], ◌∷◌, ◌++◌, Some}
+use Rattle.std.specs.Prelude.{ℕ, ◌≡◌, ◌≤◌, ◌==◌, ◌&&◌, true, if◌then◌else◌, List, [], ◌∷◌, ◌++◌, Some, Ok}
 use Rattle.ax_tree.specs.declared.packet.Packet.{Packet}
 use Rattle.ax_tree.specs.declared.packet.HEntry.{HEntry}
 use Rattle.ax_tree.specs.declared.packet.HEntry.TheVariants.{Got}
+use Rattle.ax_tree.specs.Tree.{empty}
+use Rattle.ax_tree.specs.Updates.{applied_all}
 use Rattle.ax_tree.specs.Packets.{IsGood}
 use Rattle.ax_ask.specs.declared.op.Item.{Item}
 use Rattle.ax_rules.specs.Histories.{is_gone, token_of, got, verdict_at, applied_pass, is_applied}
-use Rattle.ax_rules.specs.Mirrors.{mirror_of, built_of}
+use Rattle.ax_rules.specs.Mirrors.{mirror_of, built_of, verdict_of, built_verdict_of}
 use Rattle.ax_rules.specs.States.{Run}
 use Rattle.ax_rules.specs.Steps.{run}
 
@@ -53,3 +55,13 @@ EachRunGoesOn =
 -- Where a tree's received packets are good, what the applied bundles build is the source at the last applied pass.
 abbrev pub BundlesGiveTheSource : Type 0
 BundlesGiveTheSource = (h : List HEntry) (t : ℕ) → IsGood t (got h t) → built_of h t ≡ mirror_of h t
+
+-- one more packet: the forest that builds and the one of mirrors have the same verdict, and a bundle that is to be applied is accepted
+pub record Agrees (h : List HEntry) (p : Packet) : Type 0 where
+  pub verdict : built_verdict_of h p ≡ verdict_of h p
+  pub accepted : is_applied (verdict_of h p) ≡ true
+      → applied_all p.bundle (if p.base.0 == 0 then empty p.tree else built_of h p.tree) ≡ Ok (mirror_of (h ++ Got p ∷ []) p.tree)
+
+-- Where the received packets and the next one are good, no update that is in order is refused.
+abbrev pub NoneInOrderIsRefused : Type 0
+NoneInOrderIsRefused = (h : List HEntry) (p : Packet) → IsGood p.tree (got h p.tree ++ p ∷ []) → Agrees h p

@@ -3,7 +3,7 @@
 //! actions, and the printed text. Their laws are the contracts of functions with empty bodies.
 #![tactic(auto)]
 
-ghost use Rattle.ax_rules.specs.Laws.{EachHistoryGoesOn, EachRunGoesOn, BundlesGiveTheSource};
+ghost use Rattle.ax_rules.specs.Laws.{EachHistoryGoesOn, EachRunGoesOn, BundlesGiveTheSource, NoneInOrderIsRefused};
 
 /// Each history goes on from each front of it.
 pub fn each_history_goes_on()
@@ -18,4 +18,10 @@ pub fn each_run_goes_on()
 /// Where a tree's received packets are good, the applied bundles build the source at the last applied pass.
 pub fn bundles_give_the_source()
     ensures { BundlesGiveTheSource }
+{}
+
+/// Where the received packets and the next one are good, its verdict is that of the mirrors, and a bundle that is to be
+/// applied is accepted.
+pub fn none_in_order_is_refused()
+    ensures { NoneInOrderIsRefused }
 {}

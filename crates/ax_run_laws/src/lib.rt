@@ -1,0 +1,15 @@
+//! The laws of whole runs, over the definitions of `ax_rules` and the laws of packets. Each is the contract of a function
+//! with an empty body; its statement stands in `specs/Laws.antt`.
+#![tactic(auto)]
+
+ghost use Rattle.ax_run_laws.specs.Laws.{EachRunHasItsPackets, EachTreeCatchesUp};
+
+/// In each run each tree's packets are those of its frame's journal, and so they are good.
+pub fn each_run_has_its_packets()
+    ensures { EachRunHasItsPackets }
+{}
+
+/// After the finale each tree that hasn't ended, and whose frame's source has a root, is that source.
+pub fn each_tree_catches_up()
+    ensures { EachTreeCatchesUp }
+{}
