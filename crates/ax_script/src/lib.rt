@@ -14,6 +14,8 @@ mod order;
 mod read;
 mod reader;
 mod script;
+#[cfg(test)]
+mod tests;
 mod trees;
 
 pub use error::ScriptErr;
