@@ -1,5 +1,5 @@
 -- After the finale's first step each frame's operations are done, and after its third the browser's.
-use Rattle.std.proofs.Common.{ℕ, zero, suc, ◌+◌, ◌≡◌, ◌≤◌, ◌==◌, Bool, true, false, if◌then◌else◌, List, [], ◌∷◌, ◌++◌, length, map, find, flat_map, replicate, refl, sym, ap, ◌∙◌, subst, Option, Some, None, arith, option_and_then, option_map}
+use Rattle.std.proofs.Common.{ℕ, zero, suc, ◌+◌, ◌≡◌, ◌≤◌, ◌==◌, Bool, true, false, if◌then◌else◌, List, [], ◌∷◌, ◌++◌, length, map, find, flat_map, replicate, refl, ap, ◌∙◌, subst, Option, Some, None, arith, option_and_then, option_map}
 use Rattle.std.proofs.lemmas.Bool.{eqb-true}
 use Rattle.ax_ask.specs.declared.op.FrameOp.{FrameOp}
 use Rattle.ax_ask.specs.declared.op.BrowserOp.{BrowserOp}
@@ -138,8 +138,10 @@ pub record AllDone (r : Run) : Type 0 where
 
 done_where_fewer : (o : Option Run) (fs : List FrameRun) (n : ℕ → ℕ) → ((t : ℕ) → lefts fs t ≤ n t) → ((t : ℕ) → AllRun (Fewer t (n t) (lefts fs t)) o) → AllRun AllDone o
 done_where_fewer None fs n enough h = tt
-done_where_fewer (Some r) fs n enough h = record { at = λ t f e.
-  let k = h t in let m = enough t in let w : lefts r.state.frames t ≡ length f.left = ap left_of e in none_left f.left (omega (arith, k.fewer, m, w)) }
+done_where_fewer (Some r) fs n enough h = record {
+  at = λ t f e.
+      let k = h t in let m = enough t in let w : lefts r.state.frames t ≡ length f.left = ap left_of e in none_left f.left (omega (arith, k.fewer, m, w));
+}
 
 pub ops_done : (r : Run) → AllRun AllDone (run (ops_left r.state) r)
 unfolding ops_left

@@ -1,27 +1,26 @@
 -- After the finale the forest is that of the script, whatever the order.
-use Rattle.std.proofs.Common.{ℕ, zero, suc, ◌≡◌, ◌==◌, Bool, true, false, ◌||◌, if◌then◌else◌, List, [], ◌∷◌, ◌++◌, map, find, refl, sym, ap, ◌∙◌, subst, Option, Some, None, arith, append-nil, true≢false}
+use Rattle.std.proofs.Common.{ℕ, zero, suc, ◌≡◌, ◌==◌, Bool, true, false, ◌||◌, if◌then◌else◌, List, [], ◌∷◌, ◌++◌, map, find, refl, sym, ap, ◌∙◌, subst, Option, Some, None, arith, true≢false}
 use Rattle.ax_trees.specs.Trees.{is_bare}
 use Rattle.ax_trees.specs.Lists.{contains, NoneTwice}
 use Rattle.ax_tree.specs.declared.packet.Packet.{Packet}
-use Rattle.ax_tree.specs.declared.packet.JEntry.{JEntry}
 use Rattle.ax_tree.specs.declared.packet.JEntry.TheVariants as entries
 use Rattle.ax_tree.specs.declared.packet.HEntry.{HEntry}
 use Rattle.ax_tree.specs.Tree.{Tree, empty}
-use Rattle.ax_tree.specs.Forest.{Forest, Standing}
-use Rattle.ax_tree.specs.Journals.{packets_of, source_of, source_from}
-use Rattle.ax_tree.specs.Packets.{source_at, edited_all}
+use Rattle.ax_tree.specs.Forest.{Standing}
+use Rattle.ax_tree.specs.Journals.{source_of, source_from}
+use Rattle.ax_tree.specs.Packets.{source_at}
 use Rattle.ax_ask.specs.declared.op.FrameOp.{FrameOp}
 use Rattle.ax_ask.specs.declared.op.TimedOp.{TimedOp}
 use Rattle.ax_ask.specs.declared.op.Item.{Item}
 use Rattle.ax_rules.specs.Histories.{is_gone, got, applied_pass}
 use Rattle.ax_rules.specs.Mirrors.{mirror_of, standing, forest_of}
 use Rattle.ax_rules.specs.Scripts.{Script, FrameScript}
-use Rattle.ax_rules.specs.States.{FrameRun, State, Run, start, begin, trees_of, forest_now, find_frame, without_lines}
+use Rattle.ax_rules.specs.States.{FrameRun, Run, start, begin, trees_of, forest_now, without_lines}
 use Rattle.ax_rules.specs.FrameSteps.{entry_of}
 use Rattle.ax_rules.specs.Steps.{run}
 use Rattle.ax_rules.specs.Finale.{ops_left, packets_left, serve, catch_up, queries_left, finale_of}
 use Rattle.ax_run_laws.specs.Laws.{is_destroyed, tree_left, forest_left}
-use Rattle.ax_run_laws.proofs.Found.{of_tree, some_same, found_in, same_number}
+use Rattle.ax_run_laws.proofs.Found.{of_tree, some_same, same_number}
 use Rattle.ax_run_laws.proofs.Held.{FrameHeld, Held, AllHeld, begin_held, run_held}
 use Rattle.ax_run_laws.proofs.Quiet.{AllRun, next}
 use Rattle.ax_run_laws.proofs.CatchUp.{CaughtUp, Up, mirror_same, finale_up, finale_held}
@@ -75,7 +74,6 @@ together P Q R h None p q = tt
 together P Q R h (Some r) p q = h r p q
 
 module _ (G : ℕ → Tree) (d : ℕ → Bool) (ts : List ℕ) where
-
   abbrev Going : Run → Type 0
   Going r = Kept (Ahead G) AnyList d ts r
 
@@ -253,13 +251,13 @@ pub forest_of_script : (s : Script) (o : List Item) (r e : Run) → NoneTwice (t
 unfolding forest_now forest_of
 forest_of_script s o r e once h k =
     let going : AllRun (Going (goal s) (is_destroyed s.browser) (trees_in s)) (Some r) =
-        subst (λ x. AllRun (Going (goal s) (is_destroyed s.browser) (trees_in s)) x) h (run_kept (Ahead (goal s)) AnyList (is_destroyed s.browser) (trees_in s) (ahead_keeps (goal s)) o (begin s) (begin_going s)) in
+    subst (λ x. AllRun (Going (goal s) (is_destroyed s.browser) (trees_in s)) x) h (run_kept (Ahead (goal s)) AnyList (is_destroyed s.browser) (trees_in s) (ahead_keeps (goal s)) o (begin s) (begin_going s)) in
     let over : AllRun (Ended (goal s) (is_destroyed s.browser) (trees_in s)) (Some e) =
-        subst (λ x. AllRun (Ended (goal s) (is_destroyed s.browser) (trees_in s)) x) k
-        (finale_ended (goal s) (is_destroyed s.browser) (trees_in s) (without_lines r) (record { frames = going.frames; browser = going.browser; ended = going.ended; trees = going.trees })) in
+    subst (λ x. AllRun (Ended (goal s) (is_destroyed s.browser) (trees_in s)) x) k
+    (finale_ended (goal s) (is_destroyed s.browser) (trees_in s) (without_lines r) (record { frames = going.frames; browser = going.browser; ended = going.ended; trees = going.trees })) in
     let held : AllHeld (Some r) = subst (λ x. AllHeld x) h (run_held o (begin s) (begin_held s)) in
     let ups : (t : ℕ) → AllRun (Up t) (Some e) = λ t. subst (λ x. AllRun (Up t) x) k (finale_up t (without_lines r) held) in
     let kept : AllHeld (Some e) = subst (λ x. AllHeld x) k (finale_held (without_lines r) held) in
     ap (λ l. map (standing e.state.history (mirror_of e.state.history)) l) over.trees
     ∙ all_standing e.state.history s s.frames
-      (each_standing s e s.frames over kept ups (each_first s.frames once) (each_in s.frames s.frames (λ f c. c)))
+    (each_standing s e s.frames over kept ups (each_first s.frames once) (each_in s.frames s.frames (λ f c. c)))

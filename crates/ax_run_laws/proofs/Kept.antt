@@ -14,7 +14,7 @@ use Rattle.ax_ask.specs.declared.op.Item.{Item}
 use Rattle.ax_ask.specs.declared.op.Item.TheVariants as items
 use Rattle.ax_ask.specs.declared.query.TimedQuery.{TimedQuery}
 use Rattle.ax_rules.specs.Histories.{is_gone, ends}
-use Rattle.ax_rules.specs.States.{FrameRun, State, Run, trees_of, find_frame, with_frame}
+use Rattle.ax_rules.specs.States.{FrameRun, Run, trees_of, find_frame, with_frame}
 use Rattle.ax_rules.specs.FrameSteps.{entry_of, do_op}
 use Rattle.ax_rules.specs.Steps.{next_token, do_receive, do_ask, do_browser, do_deliver, do_query, do_next_op, do_oldest, do_next_browser, do_next_query, do_reader, step, run}
 use Rattle.ax_rules.specs.Finale.{delivery_of, serve, is_behind, pass_of, refresh, refresh_if, catch_up}
@@ -57,7 +57,6 @@ not_ended h e t n = is_gone-append h e t ∙ (ap (λ b. is_gone h t || b) n ∙ 
     or_false false = refl
 
 module _ (P : ℕ → FrameRun → Type 0) (B : List TimedOp → Type 0) (d : ℕ → Bool) (ts : List ℕ) (keeps : Keeps P B) where
-
   abbrev K : Run → Type 0
   K r = Kept P B d ts r
 

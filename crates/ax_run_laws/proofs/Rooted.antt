@@ -8,9 +8,9 @@ use Rattle.ax_tree.specs.declared.packet.Packet.{Packet}
 use Rattle.ax_tree.specs.declared.packet.JEntry.{JEntry}
 use Rattle.ax_tree.specs.declared.packet.JEntry.TheVariants as entries
 use Rattle.ax_tree.specs.Tree.{Tree}
-use Rattle.ax_tree.specs.Edits.{edited, refusal, marks_after, flag_after}
+use Rattle.ax_tree.specs.Edits.{edited, refusal}
 use Rattle.ax_tree.specs.Serialised.{InStep}
-use Rattle.ax_tree.specs.Journals.{Frame, new_frame, pending, after_entry, frame_from, packet_at, made_at, made_from, packets_of, source_of, source_after, source_from, edit_taken}
+use Rattle.ax_tree.specs.Journals.{Frame, new_frame, after_entry, frame_from, packet_at, made_at, made_from, packets_of, source_of, source_after, source_from, edit_taken}
 use Rattle.ax_laws.proofs.FrameSteps.{Kept, kept_entry, kept_new, frame_source, edit_in_step, self_in_step}
 
 root_is : (f : Trees Look) → is_bare f ≡ false → (y : ℕ) × (root_of f ≡ Some y)
