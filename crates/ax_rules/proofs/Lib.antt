@@ -3,6 +3,7 @@ pub mod ScriptWords
 pub mod Appends
 pub mod Tokens
 pub mod StitchedTreeLemmas
+pub mod PlaceLemmas
 pub mod Going
 pub mod Building
 pub mod OneNode

@@ -92,6 +92,12 @@ caught h t f held e at idle n =
 pub record CaughtUp (h : List HEntry) (t : ℕ) (f : FrameRun) : Type 0 where
   pub same : is_gone h t ≡ false → is_bare (frame_of t f.journal).source.trees ≡ false → source_at t (got h t) (applied_pass h t) ≡ (frame_of t f.journal).source
 
+-- the same by the journal's source
+pub mirror_same : (h : List HEntry) (t : ℕ) (f : FrameRun) → CaughtUp h t f → is_gone h t ≡ false → is_bare (source_of t f.journal).trees ≡ false
+    → source_at t (got h t) (applied_pass h t) ≡ source_of t f.journal
+mirror_same h t f c gone n =
+    let same = frame_source t f.journal (new_frame t) in c.same gone (ap (λ (x : Tree). is_bare x.trees) same ∙ n) ∙ same
+
 pub record Up (t : ℕ) (r : Run) : Type 0 where
   pub at : (f : FrameRun) → find (of_tree t) r.state.frames ≡ Some f → CaughtUp r.state.history t f
 
@@ -485,7 +491,7 @@ all_held : (o : Option Run) → AllHeld o → AllRun HeldRun o
 all_held None h = tt
 all_held (Some r) h = h
 
-finale_up : (u : ℕ) (r : Run) → HeldRun r → AllRun (Up u) (finale_of r)
+pub finale_up : (u : ℕ) (r : Run) → HeldRun r → AllRun (Up u) (finale_of r)
 unfolding finale_of
 finale_up u r h =
     next (CalmUp u) (Up u) (λ a. run (queries_left a.state) a) (λ a c. queries_up u a c) _
@@ -503,3 +509,27 @@ caught_up s o r e t f h k q gone n =
     let up : AllRun (Up t) (Some e) = subst (λ x. AllRun (Up t) x) k (finale_up t (without_lines r) held) in
     let same = frame_source t f.journal (new_frame t) in
     (up.at f q).same gone (ap (λ (x : Tree). is_bare x.trees) same ∙ n) ∙ same
+
+abbrev CalmRun : Run → Type 0
+CalmRun r = Calm r
+
+calm_of : (u : ℕ) (o : Option Run) → AllRun (CalmUp u) o → AllRun CalmRun o
+calm_of u None c = tt
+calm_of u (Some r) c = c.calm
+
+calm_catch_up : (r : Run) → Calm r → AllRun CalmRun (catch_up (trees_of r.state) r)
+calm_catch_up r c = calm_of 0 (catch_up (trees_of r.state) r) (all_catch_up 0 r c)
+
+held_again : (o : Option Run) → AllRun HeldRun o → AllHeld o
+held_again None h = tt
+held_again (Some r) h = h
+
+-- the packets are those of the journals after the finale too
+pub finale_held : (r : Run) → HeldRun r → AllHeld (finale_of r)
+unfolding finale_of
+finale_held r h = held_again (finale_of r) (
+    next CalmRun HeldRun (λ a. run (queries_left a.state) a) (λ a c. all_held (run (queries_left a.state) a) (run_held (queries_left a.state) a c.held)) _
+    (next Calm CalmRun (λ a. catch_up (trees_of a.state) a) (λ a c. calm_catch_up a c) _
+    (next Calm Calm (λ a. serve a.state.browser a) (λ a c. serve_calm a.state.browser a c) _
+    (next HeldRun Calm (λ a. run (packets_left a.state) a) (λ a k. packets_calm a k) _
+    (all_held (run (ops_left r.state) r) (run_held (ops_left r.state) r h))))))

@@ -1,15 +1,33 @@
 -- The laws of whole runs, over all scripts and orders.
-use Rattle.std.specs.Prelude.{ℕ, ◌≡◌, false, List, ◌++◌, Some}
+use Rattle.std.specs.Prelude.{ℕ, ◌≡◌, Bool, false, ◌==◌, if◌then◌else◌, List, ◌++◌, map, Some, None}
+use Rattle.std.specs.List.{list_any}
 use Rattle.ax_trees.specs.Trees.{is_bare}
+use Rattle.ax_trees.specs.Lists.{NoneTwice}
+use Rattle.ax_tree.specs.Tree.{Tree, empty}
+use Rattle.ax_tree.specs.Forest.{Forest}
 use Rattle.ax_tree.specs.Journals.{packets_of, source_of}
 use Rattle.ax_tree.specs.Packets.{IsGood, Fits}
+use Rattle.ax_ask.specs.declared.op.FrameOp.{FrameOp}
+use Rattle.ax_ask.specs.declared.op.BrowserOp.{BrowserOp}
+use Rattle.ax_ask.specs.declared.op.BrowserOp.TheVariants.{Ask, Destroy, Probe}
+use Rattle.ax_ask.specs.declared.op.TimedOp.{TimedOp}
 use Rattle.ax_ask.specs.declared.op.Item.{Item}
 use Rattle.ax_rules.specs.Histories.{is_gone, got}
 use Rattle.ax_rules.specs.Mirrors.{mirror_of}
-use Rattle.ax_rules.specs.Scripts.{Script}
-use Rattle.ax_rules.specs.States.{FrameRun, Run, begin, find_frame, without_lines}
+use Rattle.ax_rules.specs.Scripts.{Script, FrameScript}
+use Rattle.ax_rules.specs.FrameSteps.{entry_of}
+use Rattle.ax_rules.specs.States.{FrameRun, Run, begin, find_frame, forest_now, without_lines}
 use Rattle.ax_rules.specs.Steps.{run}
 use Rattle.ax_rules.specs.Finale.{finale_of}
+
+-- the browser operation destroys the tree t
+abbrev pub destroys : ℕ → BrowserOp → Bool
+destroys t (Ask u) = false
+destroys t (Destroy u) = u == t
+destroys t (Probe u x) = false
+
+abbrev pub is_destroyed : List TimedOp → ℕ → Bool
+is_destroyed os t = list_any (λ (o : TimedOp). destroys t o.op) os
 
 -- what a run has of a tree and its frame: the packets received, and those that wait, are those of the journal's passes
 pub record HasItsPackets (r : Run) (t : ℕ) (f : FrameRun) : Type 0 where
@@ -27,3 +45,17 @@ abbrev pub EachTreeCatchesUp : Type 0
 EachTreeCatchesUp =
     (s : Script) (o : List Item) (r e : Run) (t : ℕ) (f : FrameRun) → run o (begin s) ≡ Some r → finale_of (without_lines r) ≡ Some e → find_frame e.state t ≡ Some f
     → is_gone e.state.history t ≡ false → is_bare (source_of t f.journal).trees ≡ false → mirror_of e.state.history t ≡ source_of t f.journal
+
+-- the tree that a frame's operations leave; the empty tree where that has no root
+abbrev pub tree_left : ℕ → List FrameOp → Tree
+tree_left t os = let s = source_of t (map entry_of os) in if is_bare s.trees then empty t else s
+
+-- the forest that a script leaves, whatever the order
+abbrev pub forest_left : Script → Forest
+forest_left s = map (λ (f : FrameScript). record { id = f.tree; tree = if is_destroyed s.browser f.tree then None else Some (tree_left f.tree f.ops) }) s.frames
+
+-- After the finale the forest, and so the dump, depends on the script alone, where no tree has two frames.
+abbrev pub ForestIsOfTheScript : Type 0
+ForestIsOfTheScript =
+    (s : Script) (o : List Item) (r e : Run) → NoneTwice (map (λ (f : FrameScript). f.tree) s.frames) → run o (begin s) ≡ Some r → finale_of (without_lines r) ≡ Some e
+    → forest_now e.state ≡ forest_left s

@@ -2,7 +2,7 @@
 //! with an empty body; its statement stands in `specs/Laws.antt`.
 #![tactic(auto)]
 
-ghost use Rattle.ax_run_laws.specs.Laws.{EachRunHasItsPackets, EachTreeCatchesUp};
+ghost use Rattle.ax_run_laws.specs.Laws.{EachRunHasItsPackets, EachTreeCatchesUp, ForestIsOfTheScript};
 
 /// In each run each tree's packets are those of its frame's journal, and so they are good.
 pub fn each_run_has_its_packets()
@@ -12,4 +12,9 @@ pub fn each_run_has_its_packets()
 /// After the finale each tree that hasn't ended, and whose frame's source has a root, is that source.
 pub fn each_tree_catches_up()
     ensures { EachTreeCatchesUp }
+{}
+
+/// After the finale the forest, and so the dump, depends on the script alone.
+pub fn forest_is_of_the_script()
+    ensures { ForestIsOfTheScript }
 {}
