@@ -7,7 +7,7 @@ use Rattle.ax_tree.specs.declared.packet.JEntry.TheVariants as entries
 use Rattle.ax_tree.specs.declared.packet.HEntry.{HEntry}
 use Rattle.ax_tree.specs.declared.packet.HEntry.TheVariants.{Got, Asked, Ended, Probed}
 use Rattle.ax_tree.specs.Journals.{Frame, new_frame, frame_of, pending, packet_at, made_at, packets_of}
-use Rattle.ax_tree.specs.Packets.{Fits}
+use Rattle.ax_tree.specs.Packets.{IsGood, Fits}
 use Rattle.ax_ask.specs.declared.op.FrameOp.{FrameOp}
 use Rattle.ax_ask.specs.declared.op.FrameOp.TheVariants as ops
 use Rattle.ax_ask.specs.declared.op.BrowserOp.{BrowserOp}
@@ -23,6 +23,8 @@ use Rattle.ax_rules.specs.FrameSteps.{entry_of, packet_now, sent_by, do_op}
 use Rattle.ax_rules.specs.Steps.{do_receive, do_ask, do_browser, do_deliver, do_query, do_next_op, do_oldest, do_next_browser, do_next_query, do_reader, step, run}
 use Rattle.ax_rules.proofs.Appends.{got-append}
 use Rattle.ax_laws.proofs.GoodPackets.{packets_push, packets_fit, good_front}
+use Rattle.ax_rules.specs.Laws.{Agrees}
+use Rattle.ax_rules.proofs.Building.{verdicts_agree, applied_accepted}
 use Rattle.ax_run_laws.specs.Laws.{HasItsPackets}
 use Rattle.ax_run_laws.proofs.Found.{of_tree, replaced, some_same, found_in, other_in, same_in, same_number}
 
@@ -216,7 +218,7 @@ run_held (i ∷ o) r h = then_held o (step r i) (step_held r i h) (λ q k. run_h
 abbrev started : FrameScript → FrameRun
 started f = record { tree = f.tree; left = f.ops; journal = []; waiting = [] }
 
-start_found : (fs : List FrameScript) (t : ℕ) (f : FrameRun) → find (of_tree t) (map started fs) ≡ Some f → (f.journal ≡ []) × (f.waiting ≡ [])
+pub start_found : (fs : List FrameScript) (t : ℕ) (f : FrameRun) → find (of_tree t) (map started fs) ≡ Some f → (f.journal ≡ []) × (f.waiting ≡ [])
 start_found [] t f h = absurd (cc)
 start_found (x ∷ fs) t f h = go (x.tree == t) (λ k. start_found fs t f k) h
   where
@@ -239,3 +241,17 @@ its_packets s o r t f h e =
     let x = held.at t f e in
     let fit : Fits t f.journal (got r.state.history t ++ f.waiting) = subst (λ l. Fits t f.journal l) (sym x.packets) (packets_fit t f.journal) in
     record { packets = x.packets; fit = fit; good = good_front t (got r.state.history t) f.waiting fit.good }
+
+-- the next packet of a tree, with those received, is good too
+pub next_agrees : (s : Script) (o : List Item) (r : Run) (t : ℕ) (f : FrameRun) (p : Packet) (ps : List Packet) → run o (begin s) ≡ Some r → find_frame r.state t ≡ Some f
+    → f.waiting ≡ p ∷ ps → Agrees r.state.history p
+unfolding find_frame
+next_agrees s o r t f p ps h e w =
+    let held : AllHeld (Some r) = subst (λ q. AllHeld q) h (run_held o (begin s) (begin_held s)) in
+    let x = held.at t f e in
+    let own : AllOf t (p ∷ ps) = subst (λ l. AllOf t l) w x.waiting in
+    let all : packets_of t f.journal ≡ (got r.state.history t ++ p ∷ []) ++ ps = sym x.packets ∙ (ap (λ l. got r.state.history t ++ l) w ∙ sym (append_assoc (got r.state.history t) (p ∷ []) ps)) in
+    let good : IsGood t (got r.state.history t ++ p ∷ []) =
+    good_front t (got r.state.history t ++ p ∷ []) ps (subst (λ l. IsGood t l) all (packets_fit t f.journal).good) in
+    let here : IsGood p.tree (got r.state.history p.tree ++ p ∷ []) = subst (λ u. IsGood u (got r.state.history u ++ p ∷ [])) (sym own.0) good in
+    record { verdict = verdicts_agree r.state.history p here; accepted = applied_accepted r.state.history p here }

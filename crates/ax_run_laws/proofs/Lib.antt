@@ -6,3 +6,5 @@ pub mod Kept
 pub mod Done
 pub mod Rooted
 pub mod Final
+pub mod Gaps
+pub mod NoGaps

@@ -1,5 +1,5 @@
 -- The laws of whole runs, over all scripts and orders.
-use Rattle.std.specs.Prelude.{ℕ, ◌≡◌, Bool, false, ◌==◌, if◌then◌else◌, List, ◌++◌, map, Some, None}
+use Rattle.std.specs.Prelude.{ℕ, ◌≡◌, ◌≤◌, Bool, true, false, ◌==◌, if◌then◌else◌, List, [], ◌∷◌, ◌++◌, map, Some, None}
 use Rattle.std.specs.List.{list_any}
 use Rattle.ax_trees.specs.Trees.{is_bare}
 use Rattle.ax_trees.specs.Lists.{NoneTwice}
@@ -12,12 +12,19 @@ use Rattle.ax_ask.specs.declared.op.BrowserOp.{BrowserOp}
 use Rattle.ax_ask.specs.declared.op.BrowserOp.TheVariants.{Ask, Destroy, Probe}
 use Rattle.ax_ask.specs.declared.op.TimedOp.{TimedOp}
 use Rattle.ax_ask.specs.declared.op.Item.{Item}
-use Rattle.ax_rules.specs.Histories.{is_gone, got}
+use Rattle.ax_ask.specs.declared.op.Item.TheVariants as items
+use Rattle.ax_ask.specs.declared.line.Line.{Line}
+use Rattle.ax_ask.specs.declared.line.Line.TheVariants as lines
+use Rattle.ax_tree.specs.declared.verdict.Verdict.{Verdict}
+use Rattle.ax_tree.specs.declared.verdict.Verdict.TheVariants as verdicts
+use Rattle.ax_rules.specs.Histories.{is_gone, token_of, got}
 use Rattle.ax_rules.specs.Mirrors.{mirror_of}
+use Rattle.ax_tree.specs.declared.packet.Packet.{Packet}
+use Rattle.ax_rules.specs.Laws.{Agrees}
 use Rattle.ax_rules.specs.Scripts.{Script, FrameScript}
 use Rattle.ax_rules.specs.FrameSteps.{entry_of}
 use Rattle.ax_rules.specs.States.{FrameRun, Run, begin, find_frame, forest_now, without_lines}
-use Rattle.ax_rules.specs.Steps.{run}
+use Rattle.ax_rules.specs.Steps.{step, run}
 use Rattle.ax_rules.specs.Finale.{finale_of}
 
 -- the browser operation destroys the tree t
@@ -59,3 +66,37 @@ abbrev pub ForestIsOfTheScript : Type 0
 ForestIsOfTheScript =
     (s : Script) (o : List Item) (r e : Run) → NoneTwice (map (λ (f : FrameScript). f.tree) s.frames) → run o (begin s) ≡ Some r → finale_of (without_lines r) ≡ Some e
     → forest_now e.state ≡ forest_left s
+
+-- a delivery names a token that was asked for
+abbrev pub IsAsked : Run → Item → Type 0
+IsAsked r (items.Frame t) = Unit {0}
+IsAsked r (items.Receive t) = Unit {0}
+IsAsked r items.Browser = Unit {0}
+IsAsked r (items.Deliver t n) = n.0 ≤ token_of r.state.history t
+IsAsked r (items.Reader k) = Unit {0}
+
+-- so does each delivery of an order, in its turn
+abbrev pub TokensAsked : List Item → Run → Type 0
+TokensAsked [] r = Unit {0}
+TokensAsked (i ∷ o) r = IsAsked r i × ((q : Run) → step r i ≡ Some q → TokensAsked o q)
+
+-- the line tells of a gap
+abbrev pub is_gap_verdict : Verdict → Bool
+is_gap_verdict (verdicts.Applied n es) = false
+is_gap_verdict (verdicts.Stale had want) = false
+is_gap_verdict (verdicts.Gap base at) = true
+is_gap_verdict verdicts.Gone = false
+
+abbrev pub is_gap : Line → Bool
+is_gap (lines.Received t v) = is_gap_verdict v
+is_gap l = false
+
+-- Where each delivered token was asked for before, no receipt is a gap.
+abbrev pub NoReceiptIsAGap : Type 0
+NoReceiptIsAGap = (s : Script) (o : List Item) (r : Run) → TokensAsked o (begin s) → run o (begin s) ≡ Some r → list_any is_gap r.lines ≡ false
+
+-- In each run the packet that a tree receives next has the same verdict by what bundles build as by mirrors; and where it is to be applied, its bundle is accepted and gives the next mirror.
+abbrev pub NoUpdateInOrderIsRefused : Type 0
+NoUpdateInOrderIsRefused =
+    (s : Script) (o : List Item) (r : Run) (t : ℕ) (f : FrameRun) (p : Packet) (ps : List Packet) → run o (begin s) ≡ Some r → find_frame r.state t ≡ Some f → f.waiting ≡ p ∷ ps
+    → Agrees r.state.history p
