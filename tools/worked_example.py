@@ -224,7 +224,7 @@ def script_term(j):
 def expected(out):
     """The text as a term, a line for each of its lines."""
     terms = []
-    for line in out.decode().splitlines():
+    for line in out.decode().split("\n")[:-1]:
         escaped = line.replace("\\", "\\\\").replace('"', '\\"')
         if all(32 <= ord(c) < 127 for c in line):
             terms.append(f'codes "{escaped}\\n"')
