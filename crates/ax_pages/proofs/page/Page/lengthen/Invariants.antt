@@ -1,0 +1,9 @@
+use Rattle.std.proofs.Common.{◌≡◌, ℕ, length, ◌-◌}
+use Rattle.ax_pages.specs.Slots.{slot, values_in}
+use Rattle.ax_pages.proofs.page.Page.lengthen.Given as goal
+
+abbrev pub invariant-loop-self : goal.invariant-loop-self
+invariant-loop-self g l = (j : ℕ) → slot (values_in l.self-inside.slots.items) j ≡ slot l.fn.self j
+
+abbrev pub decreases-loop-self : goal.decreases-loop-self
+decreases-loop-self g l = l.len - length l.self-inside.slots.items
