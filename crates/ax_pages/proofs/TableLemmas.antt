@@ -1,7 +1,7 @@
 -- What a table of pages has, as a finite map.
 use Rattle.std.proofs.Common.{◌≡◌, ℕ, zero, suc, ◌+◌, ◌*◌, ◌/◌, ◌%◌, ◌≤◌, ◌<◌, ◌||◌, ◌⊎◌, Bool, true, false, cond, eqb, List, [], ◌∷◌, ◌++◌, length, Option, Some, None, refl, sym, ap, subst, ◌∙◌, arith, ⊎_elim}
-use Rattle.std.specs.Prelude.{option_map, option_and_then, nat_eq, is_some, IsSome, MatchOption, Result, Ok, Err, OnOk, OnErr}
-use Rattle.std.specs.Option.{IsSomeAnd}
+use Rattle.std.specs.Prelude.{option_map, option_and_then, nat_eq, is_some, IsSome, ◌≢◌, MatchOption, Result, Ok, Err, OnOk, OnErr}
+use Rattle.std.specs.Option.{IsSomeAnd, ForSome}
 use Rattle.std.proofs.lemmas.Map.Entries.{lookup_clone}
 use Rattle.std.specs.List.{list_any}
 use Rattle.std.proofs.lemmas.Bool.{cases_Bool, eqb-true, eqb-false, eq-eqb}
@@ -14,14 +14,15 @@ use Rattle.std.specs.Map.{lookup, keys_of}
 use Rattle.std.specs.HashMap as hash
 use Rattle.std.specs.declared.sync.Arc.{Arc}
 use Rattle.std.specs.Arc.{arc_value}
-use Rattle.ax_pages.specs.Slots.{slot}
-use Rattle.ax_pages.specs.Table.{IsSame, value_at, entry_at, entries_at, from_on, ids_of, held}
+use Rattle.ax_pages.specs.Slots.{slot, used_count}
+use Rattle.ax_pages.proofs.SlotLemmas.{none_beside}
+use Rattle.ax_pages.specs.Table.{IsSame, Puts, EachIsUsed, value_at, entry_at, entries_at, from_on, ids_of, held}
 
 -- whether an id is listed
 abbrev pub lists : List ℕ → ℕ → Bool
 lists qs q = list_any (λ i. eqb i q) qs
 
-cmp_is : (a b : ℕ) → eq_by_cmp nat_cmp a b ≡ eqb b a
+pub cmp_is : (a b : ℕ) → eq_by_cmp nat_cmp a b ≡ eqb b a
 cmp_is a b = grind (arith, nat_tests, eqb_tells a b, eqb_tells b a)
 
 module _ {X : Type 0} where
@@ -136,6 +137,51 @@ module _ {X Z S : Type 0} where
       go None p k = ap (option_and_then (λ a. slot (arc_value a) (q % 64))) k
       go (Some a) None k = absurd k
       go (Some a) (Some b) k = ap (λ xs. slot xs (q % 64)) k
+
+module _ {X Z S : Type 0} where
+  -- a clone of a table has no empty page
+  pub clone_used : (m n : hash.HashMap ℕ (Arc (List (Option X)) Z) S) (C : ℕ → ℕ → Type 0) → ((x y : ℕ) → C x y → y ≡ x) → hash.IsClone C (λ c d. arc_value d ≡ arc_value c) m n → EachIsUsed m → EachIsUsed n
+  clone_used m n C same h used p =
+      go (hash.get nat_eq m p) (hash.get nat_eq n p) refl
+      (lookup_clone C (λ c d. arc_value d ≡ arc_value c) (nat_eq p) (λ x y k. ap (nat_eq p) (same x y k)) m.entries n.entries h)
+    where
+      go : (o q : Option (Arc (List (Option X)) Z)) → hash.get nat_eq m p ≡ o → MatchOption o (q ≡ None) (λ v. IsSomeAnd q (λ w. arc_value w ≡ arc_value v)) → ForSome q (λ a. 0 < used_count (arc_value a))
+      go None q e k c is = absurd (cc)
+      go (Some a) None e k c is = absurd k
+      go (Some a) (Some b) e k c is =
+          let one : b ≡ c = cc in
+          let page : arc_value c ≡ arc_value a = sym (ap arc_value one) ∙ k in
+          rw page (used p a e)
+
+  -- beside an id whose page has a single value there is none
+  beside : (m : hash.HashMap ℕ (Arc (List (Option X)) Z) S) (id q : ℕ) → IsSome (value_at m id) → ForSome (hash.get nat_eq m (id / 64)) (λ a. used_count (arc_value a) ≡ 1)
+      → id / 64 ≡ q / 64 → id ≢ q → value_at m q ≡ None
+  beside m id q there single page apart = go (hash.get nat_eq m (id / 64)) refl there
+    where
+      go : (o : Option (Arc (List (Option X)) Z)) → hash.get nat_eq m (id / 64) ≡ o → IsSome (option_and_then (λ a. slot (arc_value a) (id % 64)) o)
+          → option_and_then (λ a. slot (arc_value a) (q % 64)) (hash.get nat_eq m (q / 64)) ≡ None
+      go None e h = cc
+      go (Some a) e h =
+          let here : hash.get nat_eq m (q / 64) ≡ Some a = ap (hash.get nat_eq m) (sym page) ∙ e in
+          rw here (none_beside (arc_value a) (id % 64) (q % 64) (single a e) h (λ r. apart (omega arith)))
+
+  -- the page of a single value is gone with it
+  page_gone : (m n : hash.HashMap ℕ (Arc (List (Option X)) Z) S) (id : ℕ) → IsSome (value_at m id) → ForSome (hash.get nat_eq m (id / 64)) (λ a. used_count (arc_value a) ≡ 1)
+      → ((q : ℕ) → hash.get nat_eq n q ≡ cond (nat_eq (id / 64) q) None (hash.get nat_eq m q)) → Puts m n id None
+  page_gone m n id there single gone q = ap (option_and_then (λ a. slot (arc_value a) (q % 64))) (gone (q / 64)) ∙ go (eqb (id / 64) (q / 64)) refl (eqb id q) refl
+    where
+      go : (b : Bool) → eqb (id / 64) (q / 64) ≡ b → (c : Bool) → eqb id q ≡ c
+          → option_and_then (λ a. slot (arc_value a) (q % 64)) (cond b None (hash.get nat_eq m (q / 64))) ≡ cond c None (value_at m q)
+      go false e false f = refl
+      go false e true f = absurd (eqb-false (id / 64) (q / 64) e (ap (λ n. n / 64) (eqb-true id q f)))
+      go true e true f = refl
+      go true e false f = sym (beside m id q there single (eqb-true (id / 64) (q / 64) e) (eqb-false id q f))
+
+  -- the same by the number of the page as it was found and as it was taken out
+  pub page_taken : (m n : hash.HashMap ℕ (Arc (List (Option X)) Z) S) (id found taken : ℕ) → found ≡ id / 64 → taken ≡ id / 64 → IsSome (value_at m id)
+      → ForSome (hash.get nat_eq m found) (λ a. used_count (arc_value a) ≡ 1) → ((q : ℕ) → hash.get nat_eq n q ≡ cond (nat_eq taken q) None (hash.get nat_eq m q)) → Puts m n id None
+  page_taken m n id found taken e f there single gone =
+      page_gone m n id there (λ a is. single a (ap (hash.get nat_eq m) e ∙ is)) (λ q. gone q ∙ ap (λ p. cond (nat_eq p q) None (hash.get nat_eq m q)) f)
 
 -- what follows where a clause says something of one variant
 pub on_ok : {A E : Type 0} (r : Result A E) (P Q : Type 0) → OnOk r P → (P → Q) → OnOk r Q

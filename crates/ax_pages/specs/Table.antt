@@ -1,13 +1,14 @@
 -- What a table of pages has at each id.
-use Rattle.std.specs.Prelude.{◌≡◌, ℕ, zero, suc, ◌+◌, ◌*◌, ◌/◌, ◌%◌, if◌then◌else◌, List, [], ◌∷◌, ◌++◌, Option, Some, None, option_map, option_and_then, nat_eq}
+use Rattle.std.specs.Prelude.{◌≡◌, ℕ, zero, suc, ◌+◌, ◌*◌, ◌/◌, ◌%◌, if◌then◌else◌, List, [], ◌∷◌, ◌++◌, Option, Some, None, option_map, option_and_then, nat_eq, ◌<◌}
 use Rattle.std.specs.declared.hash.FoldHasher.{FoldHasher}
 use Rattle.std.specs.declared.hash.BuildHasherDefault.{BuildHasherDefault}
 use Rattle.std.specs.HashMap.{HashMap, get, keys}
 use Rattle.std.specs.declared.sync.Arc.{Arc}
 use Rattle.std.specs.Arc.{arc_value}
+use Rattle.std.specs.Option.{ForSome}
 use Rattle.std.specs.Ordering.{nat_cmp}
 use Rattle.std.specs.FinMap as map
-use Rattle.ax_pages.specs.Slots.{slot}
+use Rattle.ax_pages.specs.Slots.{slot, used_count}
 
 module _ {X Z S : Type 0} where
   -- the value at an id
@@ -17,6 +18,10 @@ module _ {X Z S : Type 0} where
   -- one value is put or taken out
   abbrev pub Puts : HashMap ℕ (Arc (List (Option X)) Z) S → HashMap ℕ (Arc (List (Option X)) Z) S → ℕ → Option X → Type 0
   Puts m n id o = (q : ℕ) → value_at n q ≡ (if nat_eq id q then o else value_at m q)
+
+  -- no page is empty
+  abbrev pub EachIsUsed : HashMap ℕ (Arc (List (Option X)) Z) S → Type 0
+  EachIsUsed m = (number : ℕ) → ForSome (get nat_eq m number) (λ a. 0 < used_count (arc_value a))
 
   -- the same values
   abbrev pub IsSame : HashMap ℕ (Arc (List (Option X)) Z) S → HashMap ℕ (Arc (List (Option X)) Z) S → Type 0
@@ -43,6 +48,10 @@ ids_of [] = []
 ids_of (n ∷ ns) = from_on (64 * n) 64 (ids_of ns)
 
 module _ {X Z Y S : Type 0} where
+  -- no page of a table is empty
+  abbrev pub AllUsed : Option (Arc (HashMap ℕ (Arc (List (Option X)) Z) S) Y) → Type 0
+  AllUsed o = ForSome o (λ a. EachIsUsed (arc_value a))
+
   -- the values of a table, by id
   abbrev pub held : Option (Arc (HashMap ℕ (Arc (List (Option X)) Z) S) Y) → map.FinMap nat_cmp X
   held None = map.empty

@@ -1,29 +1,35 @@
-ghost use Rattle.std.specs.Prelude.{◌≡◌, ◌≤◌, ◌<◌, ◌+◌, ℕ, [], length, IfOk, OnOk, OnErr, option_map, nat_eq, if◌then◌else◌};
+ghost use Rattle.std.specs.Prelude.{◌≡◌, ◌≤◌, ◌<◌, ◌+◌, ℕ, [], length, IfOk, OnOk, OnErr, IsTrue, option_map, nat_eq, is_some, if◌then◌else◌};
 ghost use Rattle.std.specs.Option.{option_copied};
 ghost use Rattle.std.specs.Arc.{arc_value};
-ghost use Rattle.ax_pages.specs.Slots.{slot};
+ghost use Rattle.ax_pages.specs.Slots.{slot, used_count, one_if_some};
 
+use crate::Steps;
 use ax_base::NoMemory;
 use std::alloc::Global;
 use std::marker::Model;
 use std::sync::Arc;
+use std::sync::ledger::Ledger;
 
-/// Up to 64 values by their place in the page.
+/// At most 64 values by their place, each counted, and how many they are. A page is as long as the last place that was
+/// ever filled.
 #[derive(Drop)]
 pub struct Page<T> {
     slots: Vec<Option<Arc<T>>>,
+    used: usize,
 }
 
 impl<T> Model for Page<T> {
-    ghost use Rattle.std.specs.Prelude.{List, Option};
+    ghost use Rattle.std.specs.Prelude.{◌≡◌, ◌≤◌, List, Option, length};
     ghost use Rattle.std.specs.Coded.{coded_list, coded_option};
-    ghost use Rattle.ax_pages.specs.Slots.{values_in};
+    ghost use Rattle.ax_pages.specs.Slots.{values_in, used_count};
 
     ghost Value = { List (Option T) };
 
     ghost coded = { coded_list (coded_option T.code) };
 
     ghost view = { λ p. values_in p.slots.items };
+
+    ghost invariant = { λ p. (length (values_in p.slots.items) ≤ 64) × (p.used ≡ used_count (values_in p.slots.items)) };
 }
 
 impl<T> Page<T> {
@@ -32,24 +38,34 @@ impl<T> Page<T> {
     {
         Page {
             slots: Vec::new(alloc),
+            used: 0,
         }
     }
 
-    pub fn get(&self, i: usize) -> Option<&T>
-        ensures { option_copied result ≡ slot self.now i }
+    pub fn get(&self, place: usize) -> Option<&T>
+        ensures { option_copied result ≡ slot self.now place }
     {
-        match self.slots.get(i) {
+        match self.slots.get(place) {
             Some(Some(value)) => Some(&**value),
             Some(None) => None,
             None => None,
         }
+    }
+
+    /// How many values there are.
+    pub fn used(&self) -> usize
+        ensures { result ≡ used_count self.now }
+    {
+        self.used
     }
 }
 
 impl<T: Drop> Page<T> {
     /// Makes the page at least this long.
     fn lengthen(&mut self, len: usize) -> Result<(), NoMemory>
-        ensures same { (j : ℕ) → slot self.new j ≡ slot self.old j }
+        requires { len ≤ 64 }
+        ensures slots { (j : ℕ) → slot self.new j ≡ slot self.old j }
+        ensures used { used_count self.new ≡ used_count self.old }
         ensures ok { OnOk result (len ≤ length self.new) }
     {
         while self.slots.len() < len {
@@ -61,21 +77,40 @@ impl<T: Drop> Page<T> {
     }
 
     /// Puts a value at its place, or takes out what is there.
-    pub fn set(&mut self, i: usize, value: Option<Arc<T>>) -> Result<(), NoMemory>
-        requires { i < 64 }
-        ensures ok { OnOk result ((j : ℕ) → slot self.new j ≡ (if nat_eq i j then option_map arc_value value else slot self.old j)) }
+    pub fn set(&mut self, place: usize, value: Option<Arc<T>>) -> Result<(), NoMemory>
+        requires { place < 64 }
+        ensures ok { OnOk result ((j : ℕ) → slot self.new j ≡ (if nat_eq place j then option_map arc_value value else slot self.old j)) }
+        ensures used { OnOk result (used_count self.new + one_if_some (slot self.old place) ≡ used_count self.old + one_if_some (option_map arc_value value)) }
         ensures err { OnErr result ((j : ℕ) → slot self.new j ≡ slot self.old j) }
+        ensures err_used { OnErr result (used_count self.new ≡ used_count self.old) }
     {
-        self.lengthen(i + 1)?;
-        self.slots[i] = value;
+        self.lengthen(place + 1)?;
+        self.used = count_after(self.used, self.slots[place].is_some(), value.is_some());
+        self.slots[place] = value;
         Ok(())
     }
 }
 
+/// How many values there are after one place changed, from none or one value to none or one.
+fn count_after(used: usize, had: bool, has: bool) -> usize
+    requires few { used ≤ 64 }
+    requires counted { IsTrue had → 0 < used }
+    ensures { result + (if had then 1 else 0) ≡ used + (if has then 1 else 0) }
+{
+    match (had, has) {
+        (true, false) => used - 1,
+        (false, true) => used + 1,
+        _ => used,
+    }
+}
+
 impl<T: Drop> Page<T> {
-    pub fn copy(&self, alloc: Global) -> Result<Page<T>, NoMemory>
-        ensures { IfOk result (λ p. p ≡ self.now) }
+    /// The same values, of which each has one more owner then. It takes a step, whatever comes of it.
+    pub fn copy<L: Ledger>(&self, alloc: Global, steps: &mut Steps<L>) -> Result<Page<T>, NoMemory>
+        ensures same { IfOk result (λ p. p ≡ self.now) }
+        ensures cost { steps.new ≡ steps.old + 1 }
     {
+        steps.tick();
         let mut slots = Vec::new(alloc);
         for value in &self.slots {
             let value = match value {
@@ -89,6 +124,9 @@ impl<T: Drop> Page<T> {
                 return Err(NoMemory);
             }
         }
-        Ok(Page { slots })
+        Ok(Page {
+            slots,
+            used: self.used,
+        })
     }
 }

@@ -1,184 +1,93 @@
-ghost use Rattle.std.specs.Prelude.{◌≡◌, ◌≤◌, ◌<◌, ◌+◌, ℕ, IfOk, OnOk, OnErr, option_map, nat_eq, if◌then◌else◌, Some, None};
+ghost use Rattle.std.specs.Prelude.{◌≡◌, ◌≤◌, ◌+◌, IfOk, OnOk, OnErr, if◌then◌else◌};
 ghost use Rattle.std.specs.Option.{option_copied};
-ghost use Rattle.std.specs.Arc.{arc_value};
-ghost use Rattle.std.specs.Ordering.{nat_cmp};
 ghost use Rattle.std.specs.FinMap as map;
-ghost use Rattle.ax_pages.specs.Table.{value_at, Puts, IsSame, held};
-ghost use Rattle.ax_pages.specs.Slots.{slot};
 
 use crate::Steps;
-use crate::page::Page;
+use crate::table::Table;
 use ax_base::{NoMemory, NodeId};
 use std::alloc::Global;
-use std::collections::HashMap;
 use std::marker::Model;
-use std::sync::Arc;
 use std::sync::ledger::Ledger;
 
-/// Values by id. Pages and their table are shared, and copied at the first write.
+/// A finite map from node ids to values, whose pages may have other owners. After want of memory it is unchanged.
 #[derive(Drop)]
 pub struct Paged<T> {
-    table: Option<Arc<HashMap<u32, Arc<Page<T>>>>>,
-    alloc: Global,
+    table: Table<T>,
+    len: usize,
 }
 
 impl<T> Model for Paged<T> {
+    ghost use Rattle.std.specs.Prelude.{◌≡◌};
     ghost use Rattle.std.specs.Ordering.{nat_cmp};
     ghost use Rattle.std.specs.FinMap as map;
     ghost use Rattle.std.specs.Coded.{coded_ℕ};
-    ghost use Rattle.ax_pages.specs.Table.{held};
 
     ghost Value = { map.FinMap nat_cmp T };
 
     ghost coded = { map.code coded_ℕ T.code };
 
-    ghost view = { λ s. held s.table };
+    ghost view = { λ p. p.table };
+
+    ghost invariant = { λ p. p.len ≡ map.len p.table };
 }
 
 impl<T> Paged<T> {
+    /// The empty map. It takes no memory before the first value.
     pub fn new(alloc: Global) -> Paged<T>
         ensures { result ≡ map.empty }
     {
-        Paged { table: None, alloc }
+        Paged {
+            table: Table::new(alloc),
+            len: 0,
+        }
     }
 
+    pub fn allocator(&self) -> Global {
+        self.table.allocator()
+    }
+
+    /// How many ids have a value, in constant time.
+    pub fn len(&self) -> usize
+        ensures { result ≡ map.len self.now }
+    {
+        self.len
+    }
+
+    /// The value at an id, in constant time.
     pub fn read(&self, id: NodeId) -> Option<&T>
         ensures { option_copied result ≡ map.get self.now id }
     {
-        match &self.table {
-            Some(table) => found(table, id.get()),
-            None => None,
-        }
+        self.table.read(id)
     }
 
-    /// The same values. It takes no memory.
+    /// The same map, in constant time and without memory: want of memory would be a count of owners that is full.
     pub fn share(&self) -> Result<Paged<T>, NoMemory>
-        ensures { IfOk result (λ s. s ≡ self.now) }
+        ensures { IfOk result (λ p. p ≡ self.now) }
     {
-        match &self.table {
-            Some(table) => match Arc::try_clone(table) {
-                Ok(table) => Ok(Paged {
-                    table: Some(table),
-                    alloc: self.alloc,
-                }),
-                Err(_) => Err(NoMemory),
-            },
-            None => Ok(Paged {
-                table: None,
-                alloc: self.alloc,
-            }),
+        let table = self.table.share()?;
+        Ok(Paged {
+            table,
+            len: self.len,
+        })
+    }
+
+    /// How many ids have a value once this one has. A number that passes the last `usize` couldn't be kept.
+    fn len_with(&self, id: NodeId) -> Result<usize, NoMemory>
+        ensures { IfOk result (λ n. n ≡ (if map.contains_key self.now id then map.len self.now else map.len self.now + 1)) }
+    {
+        if self.table.read(id).is_some() {
+            return Ok(self.len);
         }
-    }
-}
-
-fn found<T>(pages: &HashMap<u32, Arc<Page<T>>>, id: u32) -> Option<&T>
-    ensures { option_copied result ≡ value_at pages.now id }
-{
-    match pages.get(&(id / 64)) {
-        Some(page) => page.get((id % 64) as usize),
-        None => None,
-    }
-}
-
-/// Puts a value at its place, or takes out what is there. A page with other owners is copied first.
-fn put_in_page<T: Drop, L: Ledger>(
-    page: &mut Arc<Page<T>>,
-    at: usize,
-    value: Option<Arc<T>>,
-    alloc: Global,
-    steps: &mut Steps<L>,
-) -> Result<(), NoMemory>
-    requires { at < 64 }
-    ensures ok { OnOk result ((j : ℕ) → slot (arc_value page.new) j ≡ (if nat_eq at j then option_map arc_value value else slot (arc_value page.old) j)) }
-    ensures err { OnErr result ((j : ℕ) → slot (arc_value page.new) j ≡ slot (arc_value page.old) j) }
-    ensures cost { steps.new ≤ steps.old + 1 }
-{
-    if let Some(page) = Arc::get_mut(page) {
-        return page.set(at, value);
-    }
-    steps.tick();
-    let mut copy = page.copy(alloc)?;
-    copy.set(at, value)?;
-    match Arc::new(alloc, copy) {
-        Ok(copy) => {
-            *page = copy;
-            Ok(())
+        match self.len.checked_add(1) {
+            Some(len) => Ok(len),
+            None => Err(NoMemory),
         }
-        Err(_) => Err(NoMemory),
-    }
-}
-
-/// Puts a value at its id, or takes out what is there.
-fn put_in_table<T: Drop, L: Ledger>(
-    pages: &mut HashMap<u32, Arc<Page<T>>>,
-    id: u32,
-    value: Option<Arc<T>>,
-    alloc: Global,
-    steps: &mut Steps<L>,
-) -> Result<(), NoMemory>
-    ensures ok { OnOk result (Puts pages.old pages.new id (option_map arc_value value)) }
-    ensures err { OnErr result (IsSame pages.old pages.new) }
-    ensures cost { steps.new ≤ steps.old + 1 }
-{
-    let at = (id % 64) as usize;
-    if let Some(page) = pages.get_mut(&(id / 64)) {
-        return put_in_page(page, at, value, alloc, steps);
-    }
-    if value.is_none() {
-        return Ok(());
-    }
-    let mut page = Page::new(alloc);
-    page.set(at, value)?;
-    let page = match Arc::new(alloc, page) {
-        Ok(page) => page,
-        Err(_) => return Err(NoMemory),
-    };
-    match pages.insert(id / 64, page) {
-        Ok(_) => Ok(()),
-        Err(_) => Err(NoMemory),
-    }
-}
-
-/// The same where the table may have other owners. It is copied first then.
-fn put_in_shared<T: Drop, L: Ledger>(
-    table: &mut Arc<HashMap<u32, Arc<Page<T>>>>,
-    id: u32,
-    value: Option<Arc<T>>,
-    alloc: Global,
-    steps: &mut Steps<L>,
-) -> Result<(), NoMemory>
-    ensures ok { OnOk result (Puts (arc_value table.old) (arc_value table.new) id (option_map arc_value value)) }
-    ensures err { OnErr result (IsSame (arc_value table.old) (arc_value table.new)) }
-    ensures cost { steps.new ≤ steps.old + 1 }
-{
-    if let Some(pages) = Arc::get_mut(table) {
-        return put_in_table(pages, id, value, alloc, steps);
-    }
-    let mut copy = table_copy(table)?;
-    put_in_table(&mut copy, id, value, alloc, steps)?;
-    match Arc::new(alloc, copy) {
-        Ok(copy) => {
-            *table = copy;
-            Ok(())
-        }
-        Err(_) => Err(NoMemory),
-    }
-}
-
-/// The table with the same pages, which are then shared.
-fn table_copy<T: Drop>(
-    pages: &HashMap<u32, Arc<Page<T>>>,
-) -> Result<HashMap<u32, Arc<Page<T>>>, NoMemory>
-    ensures { IfOk result (λ n. IsSame pages.now n) }
-{
-    match pages.clone() {
-        Ok(copy) => Ok(copy),
-        Err(_) => Err(NoMemory),
     }
 }
 
 impl<T: Drop> Paged<T> {
-    /// Puts a value at its id. It takes one step for a page that is copied.
+    /// Puts a value at an id, in constant time where this is the only owner. Behind a share the first write copies the
+    /// table, and the first write to a page copies that page, which takes a step.
     pub fn write<L: Ledger>(
         &mut self,
         id: NodeId,
@@ -189,101 +98,36 @@ impl<T: Drop> Paged<T> {
         ensures err { OnErr result (self.new ≡ self.old) }
         ensures cost { steps.new ≤ steps.old + 1 }
     {
-        let value = match Arc::new(self.alloc, value) {
-            Ok(value) => value,
-            Err(_) => return Err(NoMemory),
-        };
-        match &mut self.table {
-            Some(table) => put_in_shared(table, id.get(), Some(value), self.alloc, steps),
-            None => {
-                let mut pages = HashMap::new(self.alloc);
-                put_in_table(&mut pages, id.get(), Some(value), self.alloc, steps)?;
-                match Arc::new(self.alloc, pages) {
-                    Ok(table) => {
-                        self.table = Some(table);
-                        Ok(())
-                    }
-                    Err(_) => Err(NoMemory),
-                }
-            }
-        }
+        let len = self.len_with(id)?;
+        self.table.write(id, value, steps)?;
+        self.len = len;
+        Ok(())
     }
 
-    /// Takes out the value at an id. It takes one step for a page that is copied.
+    /// Puts a value at an id to which this owner has written since its last share, so that the page is its own. It takes
+    /// no step. Where the page has other owners after all, it answers want of memory.
+    pub fn rewrite(&mut self, id: NodeId, value: T) -> Result<(), NoMemory>
+        ensures ok { OnOk result (self.new ≡ map.insert self.old id value) }
+        ensures err { OnErr result (self.new ≡ self.old) }
+    {
+        let len = self.len_with(id)?;
+        self.table.rewrite(id, value)?;
+        self.len = len;
+        Ok(())
+    }
+
+    /// Takes out the value at an id, at the cost of a write. A page whose last value goes is freed, and an id that has
+    /// none changes and copies nothing.
     pub fn erase<L: Ledger>(&mut self, id: NodeId, steps: &mut Steps<L>) -> Result<(), NoMemory>
         ensures ok { OnOk result (self.new ≡ map.remove self.old id) }
         ensures err { OnErr result (self.new ≡ self.old) }
         ensures cost { steps.new ≤ steps.old + 1 }
     {
-        match &mut self.table {
-            Some(table) => return put_in_shared(table, id.get(), None, self.alloc, steps),
-            None => {}
+        if self.table.read(id).is_none() {
+            return Ok(());
         }
+        self.table.erase(id, steps)?;
+        self.len -= 1;
         Ok(())
-    }
-}
-
-/// Puts a value at its place in a page that has no other owner.
-fn put_in_own_page<T: Drop>(
-    page: &mut Arc<Page<T>>,
-    at: usize,
-    value: Option<Arc<T>>,
-) -> Result<(), NoMemory>
-    requires { at < 64 }
-    ensures ok { OnOk result ((j : ℕ) → slot (arc_value page.new) j ≡ (if nat_eq at j then option_map arc_value value else slot (arc_value page.old) j)) }
-    ensures err { OnErr result ((j : ℕ) → slot (arc_value page.new) j ≡ slot (arc_value page.old) j) }
-{
-    if let Some(page) = Arc::get_mut(page) {
-        return page.set(at, value);
-    }
-    Err(NoMemory)
-}
-
-/// The same at an id, where the page is there.
-fn put_in_own_table<T: Drop>(
-    pages: &mut HashMap<u32, Arc<Page<T>>>,
-    id: u32,
-    value: Option<Arc<T>>,
-) -> Result<(), NoMemory>
-    ensures ok { OnOk result (Puts pages.old pages.new id (option_map arc_value value)) }
-    ensures err { OnErr result (IsSame pages.old pages.new) }
-{
-    let at = (id % 64) as usize;
-    if let Some(page) = pages.get_mut(&(id / 64)) {
-        return put_in_own_page(page, at, value);
-    }
-    Err(NoMemory)
-}
-
-/// The same where the table has no other owner.
-fn put_in_own<T: Drop>(
-    table: &mut Arc<HashMap<u32, Arc<Page<T>>>>,
-    id: u32,
-    value: Option<Arc<T>>,
-) -> Result<(), NoMemory>
-    ensures ok { OnOk result (Puts (arc_value table.old) (arc_value table.new) id (option_map arc_value value)) }
-    ensures err { OnErr result (IsSame (arc_value table.old) (arc_value table.new)) }
-{
-    if let Some(pages) = Arc::get_mut(table) {
-        return put_in_own_table(pages, id, value);
-    }
-    Err(NoMemory)
-}
-
-impl<T: Drop> Paged<T> {
-    /// Puts a value at an id that was written before in this place, so that its page is copied already. It takes no step.
-    pub fn rewrite(&mut self, id: NodeId, value: T) -> Result<(), NoMemory>
-        ensures ok { OnOk result (self.new ≡ map.insert self.old id value) }
-        ensures err { OnErr result (self.new ≡ self.old) }
-    {
-        let value = match Arc::new(self.alloc, value) {
-            Ok(value) => value,
-            Err(_) => return Err(NoMemory),
-        };
-        match &mut self.table {
-            Some(table) => return put_in_own(table, id.get(), Some(value)),
-            None => {}
-        }
-        Err(NoMemory)
     }
 }

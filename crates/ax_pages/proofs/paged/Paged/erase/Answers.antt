@@ -1,24 +1,20 @@
-use Rattle.std.proofs.Common.{◌≡◌, ◌∙◌, ap, sym, Option, refl, Some, None}
-use Rattle.std.specs.Ordering.{nat_cmp}
+use Rattle.std.proofs.Common.{◌≡◌, ◌≤◌, ◌∙◌, ap, sym, None, arith}
+use Rattle.std.specs.Prelude.{IsSome}
 use Rattle.std.specs.FinMap as map
-use Rattle.std.specs.Arc.{arc_value}
-use Rattle.ax_pages.specs.Table.{held, value_at, entries_at, ids_of}
-use Rattle.std.specs.HashMap as hash
-use Rattle.ax_pages.proofs.TableLemmas.{seen_at, empty_at, put_held, out_held, same_held, kept_held, clone_at, on_ok, on_err, out_none}
+use Rattle.ax_pages.proofs.MapLemmas.{remove_absent, one_le_len, len_out, absent, present}
 use Rattle.ax_pages.proofs.paged.Paged.erase.Goals as goal
 
-pub returns-in-Some-clause-ok : goal.returns-in-Some-clause-ok
-returns-in-Some-clause-ok g c =
-    on_ok c.put_in_shared.result _ _ c.put_in_shared.ensures.ok
-    (out_held c.in-Some.table.value c.put_in_shared.new.table.value c.get.result c.args.id c.args.self.now c.get.ensures.same
-    (seen_at c.self.inside.table c.in-Some.table c.args.self.now c.in-Some.is c.self.view_is))
+pub returns-then-is_none-clause-ok : goal.returns-then-is_none-clause-ok
+returns-then-is_none-clause-ok g c =
+    let none : map.get c.self.inside.table c.args.id ≡ None = absent _ c.read.result _ c.is_none.result c.read.ensures c.is_none.ensures c.if-is_none.true in
+    sym c.self.view_is ∙ remove_absent c.self.inside.table c.args.id none ∙ ap (λ m. map.remove m c.args.id) c.self.view_is
 
-pub returns-in-Some-clause-err : goal.returns-in-Some-clause-err
-returns-in-Some-clause-err g c =
-    on_err c.put_in_shared.result _ _ c.put_in_shared.ensures.err
-    (kept_held c.in-Some.table.value c.put_in_shared.new.table.value c.args.self.now (seen_at c.self.inside.table c.in-Some.table c.args.self.now c.in-Some.is c.self.view_is))
+pub overflow_sub-self : goal.overflow_sub-self
+overflow_sub-self g c =
+    let there : IsSome (map.get c.self.inside.table c.args.id) = present _ c.read.result _ c.is_none.result c.read.ensures c.is_none.ensures c.if-is_none.false in
+    omega (arith, c.self.invariant, one_le_len c.self.inside.table c.args.id there)
 
-pub returns-clause-ok : goal.returns-clause-ok
-returns-clause-ok g c =
-    let was : map.empty ≡ c.args.self.now = ap held (sym c.in-None.is) ∙ c.self.view_is in
-    c.self.view_is ∙ sym was ∙ out_none c.args.id ∙ ap (λ m. map.remove m c.args.id) was
+pub invariant_of-self-2 : goal.invariant_of-self-2
+invariant_of-self-2 g c =
+    let there : IsSome (map.get c.self.inside.table c.args.id) = present _ c.read.result _ c.is_none.result c.read.ensures c.is_none.ensures c.if-is_none.false in
+    len_out c.self.inside.table c.erase.new.self c.args.id c.self.inside.len c.self.invariant there c.in_ok-erase.ensures.ok

@@ -1,0 +1,13 @@
+use Rattle.std.proofs.Common.{◌≡◌, ◌∙◌, ap, sym, Option, refl, None}
+use Rattle.std.specs.Ordering.{nat_cmp}
+use Rattle.std.specs.FinMap as map
+use Rattle.std.specs.Arc.{arc_value}
+use Rattle.ax_pages.specs.Table.{held, value_at}
+use Rattle.ax_pages.proofs.TableLemmas.{clone_at, clone_used}
+use Rattle.ax_pages.proofs.table.copy_of.Goals as goal
+
+pub returns-in-Ok-clause-same : goal.returns-in-Ok-clause-same
+returns-in-Ok-clause-same g c = clone_at c.args.pages.now c.in-Ok.copy _ (λ x y e. e) c.in-Ok.ensures.cases
+
+pub returns-in-Ok-clause-used : goal.returns-in-Ok-clause-used
+returns-in-Ok-clause-used g c = clone_used c.args.pages.now c.in-Ok.copy _ (λ x y e. e) c.in-Ok.ensures.cases c.requires
