@@ -2,9 +2,9 @@
 use Rattle.std.proofs.Common.{◌≡◌, ℕ, zero, suc, ◌+◌, ◌-◌, ◌≤◌, Bool, true, false, cond, eqb, Option, Some, None, refl, sym, ap, ◌∙◌, arith}
 use Rattle.std.specs.Prelude.{is_some, not, option_map, IsSome}
 use Rattle.std.proofs.lemmas.Bool.{eqb-true}
-use Rattle.std.specs.Ordering.{nat_cmp, eq_by_cmp}
+use Rattle.std.specs.Ordering.{nat_cmp}
 use Rattle.std.specs.Cmp.{nat_cmp_total}
-use Rattle.std.specs.FinMap.{FinMap, get, insert, remove, empty, contains_key, len, get-remove, get-empty, len-insert, len-remove, empty_of_len, same_map, nat_cmp-IsAntisymmetric}
+use Rattle.std.specs.FinMap.{FinMap, get, insert, remove, contains_key, len, get-remove, get-empty, len-insert, len-remove, empty_of_len, same_map, nat_cmp-IsAntisymmetric}
 use Rattle.ax_pages.proofs.TableLemmas.{cmp_is}
 
 module _ {X : Type 0} where

@@ -1,8 +1,3 @@
-use Rattle.std.proofs.Common.{◌≡◌, ◌∙◌, ap, sym, Option, refl, None}
-use Rattle.std.specs.Ordering.{nat_cmp}
-use Rattle.std.specs.FinMap as map
-use Rattle.std.specs.Arc.{arc_value}
-use Rattle.ax_pages.specs.Table.{held, value_at}
 use Rattle.ax_pages.proofs.TableLemmas.{clone_at, clone_used}
 use Rattle.ax_pages.proofs.table.copy_of.Goals as goal
 

@@ -1,4 +1,4 @@
-use Rattle.std.proofs.Common.{◌∙◌, ◌+◌, ◌≤◌, length, arith}
+use Rattle.std.proofs.Common.{◌∙◌, arith}
 use Rattle.ax_pages.proofs.SlotLemmas.{Lengthened, longer}
 use Rattle.ax_pages.proofs.page.Page.lengthen.Goals as goal
 

@@ -1,7 +1,6 @@
-use Rattle.std.proofs.Common.{◌≡◌, ◌∙◌, ◌+◌, ap, sym, length, arith, ℕ, Bool, true, cond, eqb, Option, ◌<◌, ◌≤◌, List, length-set}
+use Rattle.std.proofs.Common.{◌≡◌, ◌∙◌, ap, sym, length, arith, ℕ, Bool, true, cond, eqb, Option, ◌<◌, ◌≤◌, List, length-set}
 use Rattle.std.specs.Prelude.{option_map, slice_set, is_some}
 use Rattle.std.specs.Arc.{arc_value}
-use Rattle.std.proofs.lemmas.List.{length-map}
 use Rattle.ax_pages.specs.Slots.{slot, used_count, one_if_some, values_in}
 use Rattle.ax_pages.proofs.SlotLemmas.{slot_set, used_set, had_one, length_values, same_one}
 use Rattle.ax_pages.proofs.page.Page.set.Goals as goal

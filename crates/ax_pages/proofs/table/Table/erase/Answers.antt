@@ -1,11 +1,8 @@
-use Rattle.std.proofs.Common.{◌≡◌, ◌∙◌, ap, sym, Option, refl, Some, None}
+use Rattle.std.proofs.Common.{◌≡◌, ◌∙◌, ap, sym}
 use Rattle.std.specs.Prelude.{is_some}
-use Rattle.std.specs.Ordering.{nat_cmp}
 use Rattle.std.specs.FinMap as map
-use Rattle.std.specs.Arc.{arc_value}
-use Rattle.ax_pages.specs.Table.{held, value_at, entries_at, ids_of}
-use Rattle.std.specs.HashMap as hash
-use Rattle.ax_pages.proofs.TableLemmas.{seen_at, empty_at, put_held, out_held, same_held, kept_held, clone_at, on_ok, on_err, out_none}
+use Rattle.ax_pages.specs.Table.{held}
+use Rattle.ax_pages.proofs.TableLemmas.{seen_at, out_held, kept_held, on_ok, on_err, out_none}
 use Rattle.ax_pages.proofs.table.Table.erase.Goals as goal
 
 pub returns-in-Some-clause-ok : goal.returns-in-Some-clause-ok
