@@ -1,30 +1,24 @@
 -- What a walk down a tree has still to visit.
-use Rattle.std.proofs.Common.{ℕ, suc, ◌+◌, ◌-◌, ◌<◌, ◌≡◌, max, true, false, cond, ◌||◌, eqb, List, [], ◌∷◌, ◌++◌, length, reverse, take, get_or, Option, Some, None, refl, sym, ap, ◌∙◌, subst, arith, append_assoc, length-append}
+use Rattle.std.proofs.Common.{ℕ, zero, suc, ◌≤◌, ◌+◌, ◌-◌, ◌<◌, ◌≡◌, max, true, false, cond, ◌||◌, eqb, List, [], ◌∷◌, ◌++◌, length, reverse, take, get_or, Option, Some, None, refl, sym, ap, ◌∙◌, subst, arith, append_assoc, length-append}
 use Rattle.std.proofs.lemmas.List.{append-nil, reverse-append, reverse-reverse, take_more}
 use Rattle.std.specs.Prelude.{option_map}
 use Rattle.std.proofs.lemmas.Bool.Decides.{eqb_tells}
-use Rattle.std.proofs.lemmas.Bool.{false_from_ne_true, false≢true}
+use Rattle.std.proofs.lemmas.Bool.{false_from_ne_true}
 use Rattle.ax_node.specs.Look.{Look}
 use Rattle.ax_node.specs.declared.node.NodeData.{NodeData}
 use Rattle.ax_tree.specs.Tree.{data_of}
-use Rattle.ax_trees.specs.Trees.{Trees, bare, tree, is_bare, has, ids, roots, height, IsDistinct, AreApart}
+use Rattle.ax_trees.specs.Trees.{Trees, bare, tree, has, ids, roots, height, IsDistinct, AreApart}
 use Rattle.ax_trees.specs.Nodes.{Node, node_at, below, children, pre, tree_at}
-use Rattle.ax_trees.proofs.Trees.{by_go, distinct_below, below_absent}
+use Rattle.ax_trees.proofs.Trees.{agree, by_go, distinct_below, below_absent}
 use Rattle.ax_trees.proofs.Grown.{node_none, node_some}
 use Rattle.ax_trees.proofs.Nodes.{distinct_tree_at, node_tree_at, node_below, tree_at_is}
 use Rattle.ax_trees.proofs.Parents.{listed_children, node_children}
-use Rattle.ax_store.specs.Levels.{all_children}
 
 module _ {X : Type 0} where
   -- the trees of f, then those of g
   abbrev pub beside : Trees X → Trees X → Trees X
   beside bare g = g
   beside (tree i x k r) g = tree i x k (beside r g)
-
-  -- all trees that stand below a root
-  abbrev pub inners : Trees X → Trees X
-  inners bare = bare
-  inners (tree i x k r) = beside k (inners r)
 
   pub roots-beside : (f g : Trees X) → roots (beside f g) ≡ roots f ++ roots g
   roots-beside bare g = refl
@@ -90,87 +84,43 @@ module _ {X : Type 0} where
   part_first : (i : ℕ) (x : X) (k r f : Trees X) → IsPart (tree i x k r) f → node_at f i ≡ Some (record { id = i; known = x; children = roots k })
   part_first i x k r f p = let self : eqb i i ≡ true = grind (arith, eqb_tells i i) in sym (p.same i (grind (arith, self))) ∙ (rw self refl)
 
-  -- ---- level by level
+-- ---- heights
 
-  pub roots-inners : (w f : Trees X) → IsPart w f → roots (inners w) ≡ all_children f (roots w)
-  roots-inners bare f p = refl
-  roots-inners (tree i x k r) f p =
-      let first : children f i ≡ roots k = node_children f i ∙ ap listed_children (part_first i x k r f p) in
-      roots-beside k (inners r) ∙ (ap (λ js. js ++ roots (inners r)) (sym first) ∙ ap (λ js. children f i ++ js) (roots-inners r f (part_others i x k r f p)))
+-- how high the trees of the listed nodes are
+abbrev pub heights : {X : Type 0} → Trees X → List ℕ → ℕ
+heights f [] = 0
+heights f (z ∷ zs) = max (suc (height (below f z))) (heights f zs)
 
-  inners_in : (w : Trees X) (z : ℕ) → has (inners w) z ≡ true → has w z ≡ true
-  inners_in bare z h = h
-  inners_in (tree i x k r) z h = grind (arith, has-beside k (inners r) z, h, inners_in r z)
+heights-part : {X : Type 0} (w f : Trees X) → IsDistinct f → IsPart w f → height w ≡ heights f (roots w)
+heights-part bare f d p = refl
+heights-part (tree i x k r) f d p =
+    let at : node_at f i ≡ Some (record { id = i; known = x; children = roots k }) = part_first i x k r f p in
+    let tops : roots (below f i) ≡ roots k = node_children f i ∙ ap listed_children at in
+    let inner : below f i ≡ k = agree (below f i) k (distinct_below f i d) p.distinct.3 tops (λ z g h.
+    node_below f i z d g ∙ (sym (p.same z (grind (arith, h))) ∙ node_inside i x k r z p.distinct h)) in
+    let rest : height r ≡ heights f (roots r) = heights-part r f d (part_others i x k r f p) in
+    let deep : height (below f i) ≡ height k = ap height inner in
+    omega (arith, rest, deep)
 
-  distinct_inners : (w : Trees X) → IsDistinct w → IsDistinct (inners w)
-  distinct_inners bare d = d
-  distinct_inners (tree i x k r) d =
-      distinct_beside k (inners r) d.3 (distinct_inners r d.4) (record { apart = λ z h. false_from_ne_true (has (inners r) z) (λ g. grind (arith, inners_in r z g, d.2.apart z h)) })
+pub height_is : {X : Type 0} (f : Trees X) (z : ℕ) → IsDistinct f → height (below f z) ≡ heights f (children f z)
+height_is f z d = heights-part (below f z) f d (record { distinct = distinct_below f z d; same = λ y h. node_below f z y d h })
 
-  node_inners : (w : Trees X) (z : ℕ) → IsDistinct w → has (inners w) z ≡ true → node_at (inners w) z ≡ node_at w z
-  node_inners bare z d h = refl
-  node_inners (tree i x k r) z d h = node_beside k (inners r) z ∙ by_go (has k z)
-      (λ q. ap (λ b. cond b (node_at k z) (node_at (inners r) z)) q ∙ sym (node_inside i x k r z d q))
-      (λ q. let late : has (inners r) z ≡ true = grind (arith, has-beside k (inners r) z, h, q) in
-      ap (λ b. cond b (node_at k z) (node_at (inners r) z)) q ∙ (node_inners r z d.4 late ∙ sym (node_after i x k r z d (inners_in r z late))))
-
-  pub part_inners : (w f : Trees X) → IsPart w f → IsPart (inners w) f
-  part_inners w f p = record {
-    distinct = distinct_inners w p.distinct;
-    same = λ z h. node_inners w z p.distinct h ∙ p.same z (inners_in w z h);
-  }
-
-  pub height-inners : (w : Trees X) → is_bare w ≡ false → height w ≡ suc (height (inners w))
-  height-inners bare h = absurd (false≢true (sym h))
-  height-inners (tree i x k bare) h = omega (arith, height-beside k bare)
-  height-inners (tree i x k (tree j y a b)) h = omega (arith, height-beside k (inners (tree j y a b)), height-inners (tree j y a b) refl)
-
--- what is known of the next level: trees that are a part of f, as high as is still to be counted
-pub record LevelLeft {X : Type 0} (f : Trees X) (id counted : ℕ) (level : List ℕ) : Type 0 where
-  pub left : Trees X
-  pub part : IsPart left f
-  pub top : roots left ≡ level
-  pub high : counted + height left ≡ height (below f id)
-
-pub level_begins : {X : Type 0} (f : Trees X) (id : ℕ) (level : List ℕ) → IsDistinct f → level ≡ children f id → LevelLeft f id 0 level
-level_begins f id level d e = record {
-  left = below f id;
-  part = record { distinct = distinct_below f id d; same = λ z h. node_below f id z d h };
-  top = sym e;
-  high = omega arith;
-}
-
-pub level_next : {X : Type 0} (f : Trees X) (id counted : ℕ) (level next : List ℕ) → LevelLeft f id counted level → (level ≡ [] → ⊥) → next ≡ all_children f level
-    → LevelLeft f id (counted + 1) next × (counted < height (below f id))
-level_next {X} f id counted level next l some e =
-    let open_ : is_bare l.left ≡ false = nonbare l.left l.top in
-    let one : height l.left ≡ suc (height (inners l.left)) = height-inners l.left open_ in (
-      record {
-        left = inners l.left;
-        part = part_inners l.left f l.part;
-        top = roots-inners l.left f l.part ∙ (ap (all_children f) l.top ∙ sym e);
-        high = omega (arith, one, l.high);
-      },
-      omega (arith, one, l.high),
-    )
+pub heights_next : {X : Type 0} (f : Trees X) (zs : List ℕ) (i z : ℕ) → i < length zs → z ≡ get_or zs i z → heights f (take (i + 1) zs) ≡ max (heights f (take i zs)) (suc (height (below f z)))
+heights_next f zs i z h e = ap (heights f) (take_more zs i z h ∙ ap (λ y. take i zs ++ y ∷ []) (sym e)) ∙ joined (take i zs)
   where
-    nonbare : (w : Trees X) → roots w ≡ level → is_bare w ≡ false
-    nonbare bare t = absurd (some (sym t))
-    nonbare (tree i x k r) t = refl
+    joined : (ys : List ℕ) → heights f (ys ++ z ∷ []) ≡ max (heights f ys) (suc (height (below f z)))
+    joined [] = omega arith
+    joined (y ∷ ys) = omega (arith, joined ys)
 
-pub level_ends : {X : Type 0} (f : Trees X) (id counted : ℕ) (level : List ℕ) → LevelLeft f id counted level → level ≡ [] → counted ≡ height (below f id)
-level_ends {X} f id counted level l e = go l.left (l.top ∙ e) l.high
+pub heights_at : {X : Type 0} (f : Trees X) (zs : List ℕ) (i z : ℕ) → i < length zs → z ≡ get_or zs i z → height (below f z) < heights f zs
+heights_at f zs i z h e =
+    let next : heights f (take (i + 1) zs) ≡ max (heights f (take i zs)) (suc (height (below f z))) = heights_next f zs i z h e in
+    omega (arith, next, front (i + 1) zs)
   where
-    go : (w : Trees X) → roots w ≡ [] → counted + height w ≡ height (below f id) → counted ≡ height (below f id)
-    go bare t h = omega (arith, h)
-    go (tree i x k r) t h = absurd (cc)
-
-pub level_ahead : {X : Type 0} (f : Trees X) (level : List ℕ) (i id : ℕ) → i < length level → id ≡ get_or level i id → all_children f (take (i + 1) level) ≡ all_children f (take i level) ++ children f id
-level_ahead f level i id h e = ap (all_children f) (take_more level i id h ∙ ap (λ z. take i level ++ z ∷ []) (sym e)) ∙ joined (take i level)
-  where
-    joined : (zs : List ℕ) → all_children f (zs ++ id ∷ []) ≡ all_children f zs ++ children f id
-    joined [] = append-nil (children f id)
-    joined (z ∷ zs) = ap (λ js. children f z ++ js) (joined zs) ∙ sym (append_assoc (children f z) (all_children f zs) (children f id))
+    front : (n : ℕ) (ys : List ℕ) → heights f (take n ys) ≤ heights f ys
+    front zero ys = omega arith
+    front (suc n) [] = omega arith
+    front (suc n) (y ∷ ys) = omega (arith, front n ys)
 
 -- ---- in pre-order
 

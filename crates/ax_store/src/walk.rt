@@ -1,7 +1,6 @@
 ghost use Rattle.std.specs.Prelude.{◌≡◌, IfOk};
 ghost use Rattle.ax_trees.specs.Trees.{height};
 ghost use Rattle.ax_trees.specs.Nodes.{below, pre};
-ghost use Rattle.ax_store.specs.Levels.{all_children};
 
 use ax_base::{Ids, NoMemory, NodeId};
 use ax_tree::TreeView;
@@ -28,36 +27,24 @@ pub fn pre<T: TreeView>(alloc: Global, t: &T, id: NodeId) -> Result<Ids, NoMemor
     Ok(out)
 }
 
-/// How many nodes the longest chain has that stands wholly below a node; 0 where none stands there. Costs the nodes below,
-/// and memory for two levels of them.
-pub fn height_below<T: TreeView>(alloc: Global, t: &T, id: NodeId) -> Result<usize, NoMemory>
-    ensures { IfOk result (λ high. high ≡ height (below (T.tree t.now).trees id)) }
+/// How many nodes the longest chain has that stands wholly below a node; 0 where none stands there. Costs the nodes below.
+/// It takes no memory but the machine's stack, which gets as deep as these nodes are, so an answer doesn't hang on memory.
+pub fn height_below<T: TreeView>(t: &T, id: NodeId) -> usize
+    ensures { result ≡ height (below (T.tree t.now).trees id) }
 {
     // Both are asked for what they say: the tree is well formed, and no chain has more nodes than the tree.
     let _ = t.root();
     let _ = t.count();
-    let mut level = Ids::new(alloc);
-    match t.node(id) {
-        Some(node) => level.extend_from_slice(node.children.as_slice())?,
-        None => return Ok(0),
-    }
-    let mut height = 0;
-    while !level.is_empty() {
-        level = next_level(alloc, t, level.as_slice())?;
-        height += 1;
-    }
-    Ok(height)
-}
-
-/// The children of all nodes of a level.
-fn next_level<T: TreeView>(alloc: Global, t: &T, level: &[NodeId]) -> Result<Ids, NoMemory>
-    ensures { IfOk result (λ ids. ids ≡ all_children (T.tree t.now).trees level.now) }
-{
-    let mut next = Ids::new(alloc);
-    for id in level {
-        if let Some(node) = t.node(*id) {
-            next.extend_from_slice(node.children.as_slice())?;
+    let node = match t.node(id) {
+        Some(node) => node,
+        None => return 0,
+    };
+    let mut high = 0;
+    for child in node.children.as_slice() {
+        let with_child = height_below(t, *child) + 1;
+        if with_child > high {
+            high = with_child;
         }
     }
-    Ok(next)
+    high
 }
