@@ -1,0 +1,6 @@
+pub mod Keeping
+pub mod Climbing
+pub mod Walking
+pub mod Counting
+pub mod Taking
+pub mod Spotting
