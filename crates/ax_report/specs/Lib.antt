@@ -1,0 +1,4 @@
+pub mod Buffers
+pub mod Combining
+pub mod Strings
+pub mod Walks
