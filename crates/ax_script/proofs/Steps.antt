@@ -1,6 +1,6 @@
 -- How the trees of frames are gathered, and what bytes read as.
 pub use Rattle.ax_walk.proofs.Walks.{under_gives}
-use Rattle.std.proofs.Common.{◌≡◌, ◌≤◌, ◌⊎◌, inl, inr, ℕ, zero, suc, List, [], ◌∷◌, ◌++◌, drop, append_assoc, append-nil, refl, ap, sym, ◌∙◌, arith, nat_lt, string_bytes, IfSome, Result, Ok, Err, Bool, true, false, ◌||◌, cond, length, Option, Some, None}
+use Rattle.std.proofs.Common.{◌≡◌, ◌≤◌, ◌⊎◌, inl, inr, ℕ, zero, suc, List, [], ◌∷◌, ◌++◌, drop, append_assoc, append-nil, refl, ap, sym, ◌∙◌, arith, nat_lt, string_bytes, IfSome, Err, Bool, true, false, ◌||◌, cond, length, Some, None}
 use Rattle.std.proofs.Math.Path.{fun_ext}
 use Rattle.std.proofs.lemmas.Bool.{le-ltb}
 use Rattle.std.proofs.lemmas.Str.{IsUtf8-from_is_utf8, is_utf8-from_IsUtf8}

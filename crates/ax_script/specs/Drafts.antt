@@ -1,5 +1,5 @@
 -- A script whose order is still a text.
-use Rattle.std.specs.Prelude.{◌≡◌, ◌==◌, ℕ, List, [], ◌∷◌, Bool, false, codes, if◌then◌else◌, Option, Some, None, option_and_then, option_map, unwrap_or, Result, Ok}
+use Rattle.std.specs.Prelude.{◌==◌, [], ◌∷◌, Bool, false, codes, if◌then◌else◌, Option, None, option_and_then, option_map, unwrap_or, Result, Ok}
 use Rattle.serde_json.specs.Data.{Data}
 use Rattle.serde_json.specs.Find.{get, as_number, as_u64}
 use Rattle.ax_attrs.specs.declared.table.Version.{Version}

@@ -1,5 +1,5 @@
 -- The readers' queries.
-use Rattle.std.specs.Prelude.{◌≡◌, ℕ, List, [], nat_le, if◌then◌else◌, Result, Ok, Err}
+use Rattle.std.specs.Prelude.{List, [], nat_le, if◌then◌else◌, Result}
 use Rattle.serde_json.specs.Data.{Data}
 use Rattle.serde_json.specs.Events.{items_len}
 use Rattle.ax_attrs.specs.declared.table.Version.{Version}

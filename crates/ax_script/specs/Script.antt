@@ -10,7 +10,6 @@ use Rattle.ax_walk.specs.Refused.{Refusal}
 use Rattle.ax_script.specs.declared.draft.Draft.{Draft}
 use Rattle.ax_script.specs.declared.error.ScriptErr.{ScriptErr}
 use Rattle.ax_script.specs.declared.error.ScriptErr.TheVariants.{TooBig, NotJson, UnknownMember, Missing, BadType, BadCount, BadNumber, BadName, TooManyOps, BadOrder, NoMemory}
-use Rattle.ax_script.specs.declared.script.FrameScript.{FrameScript}
 use Rattle.ax_script.specs.declared.script.Script.{Script}
 use Rattle.ax_script.specs.Drafts.{draft_of}
 use Rattle.ax_script.specs.Order.{order_of}

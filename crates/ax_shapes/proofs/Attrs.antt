@@ -1,5 +1,5 @@
 -- How a walk over the names of an object goes on, and over the rows of the table of attributes.
-use Rattle.std.proofs.Common.{◌≡◌, ℕ, zero, suc, ◌+◌, ◌-◌, ◌<◌, List, [], ◌∷◌, ◌++◌, refl, ap, sym, subst, arith, add-one, add-zero, add-suc, Bool, true, false, ◌&&◌, Option, Some, None, option_map, Result, Ok, Err, IfSome, ◌∙◌, String, Global, string_bytes}
+use Rattle.std.proofs.Common.{◌≡◌, ℕ, zero, suc, ◌+◌, ◌-◌, ◌<◌, List, [], ◌∷◌, refl, ap, sym, subst, arith, add-one, add-zero, add-suc, Bool, true, ◌&&◌, Option, Some, None, option_map, Result, Ok, Err, IfSome, ◌∙◌, String, Global, string_bytes}
 use Rattle.std.specs.Map.{keys_of}
 use Rattle.std.specs.Option.{option_and_then}
 use Rattle.serde_json.proofs.Views.{Entry as Pair}
@@ -13,7 +13,7 @@ use Rattle.ax_node.specs.declared.value.Value.{Value}
 use Rattle.ax_tree.specs.declared.edit.AttrChange.{AttrChange}
 use Rattle.ax_walk.specs.declared.refusal.WalkErr.{WalkErr}
 use Rattle.ax_walk.specs.declared.refusal.WalkErr.TheVariants.{Refused, NoMemory}
-use Rattle.ax_walk.specs.Refused.{Refusal, ◌>>=◌, IsUnder, refusal_of, within, within_step}
+use Rattle.ax_walk.specs.Refused.{Refusal, ◌>>=◌, IsUnder, refusal_of}
 use Rattle.ax_walk.specs.Walk.{optional, dot}
 use Rattle.ax_shapes.specs.Looks.{all_named, attr_in, attrs_to, change_in, changes_to, or_null, value_as, value_in, with_attr, with_change}
 

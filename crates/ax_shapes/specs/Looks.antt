@@ -1,5 +1,5 @@
 -- How a node looks: its role, states, attributes and rectangle, of which any may be absent.
-use Rattle.std.specs.Prelude.{◌≡◌, ◌&&◌, ℕ, zero, suc, List, [], ◌∷◌, ◌++◌, codes, Bool, true, false, if◌then◌else◌, Option, Some, None, is_some, unwrap_or, Result, Ok, Err, ⊤}
+use Rattle.std.specs.Prelude.{◌&&◌, ℕ, zero, suc, List, [], ◌∷◌, ◌++◌, codes, Bool, true, if◌then◌else◌, Option, Some, None, is_some, unwrap_or, Result, Ok, ⊤}
 use Rattle.std.specs.Ordering.{nat_cmp}
 use Rattle.std.specs.FinMap.Entries.{put}
 use Rattle.serde_json.specs.Data.{Data, Members, no_members, member}

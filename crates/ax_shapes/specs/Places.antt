@@ -1,5 +1,5 @@
 -- Rectangles, selections and positions.
-use Rattle.std.specs.Prelude.{◌≡◌, ◌&&◌, ◌==◌, ◌||◌, ℕ, ℤ, pos, ◌+ℤ◌, int_le, List, [], ◌∷◌, codes, Bool, true, false, not, if◌then◌else◌, Option, Some, None, is_some, is_none, option_map, unwrap_or, Result, Ok, Err, bytes_eq}
+use Rattle.std.specs.Prelude.{◌&&◌, ◌==◌, ℕ, ℤ, pos, ◌+ℤ◌, int_le, [], ◌∷◌, codes, not, if◌then◌else◌, Option, is_some, is_none, option_map, unwrap_or, Result, Ok, bytes_eq}
 use Rattle.serde_json.specs.Data.{Data, Items, no_items, item}
 use Rattle.serde_json.specs.Events.{items_len}
 use Rattle.serde_json.specs.Find.{get, as_null}

@@ -1,5 +1,5 @@
 -- Tree data, of which any may be absent.
-use Rattle.std.specs.Prelude.{◌≡◌, ℕ, List, [], ◌∷◌, codes, Bool, false, Option, Some, None, option_map, unwrap_or, Result, Ok}
+use Rattle.std.specs.Prelude.{ℕ, [], ◌∷◌, codes, false, Option, None, option_map, unwrap_or, Result, Ok}
 use Rattle.serde_json.specs.Data.{Data}
 use Rattle.serde_json.specs.Find.{get}
 use Rattle.ax_node.specs.declared.TreeData.{TreeData}

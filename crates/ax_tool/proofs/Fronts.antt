@@ -5,9 +5,10 @@ use Rattle.std.proofs.lemmas.Bool.{ltb-true, lt-ltb}
 use Rattle.std.proofs.lemmas.Bool.Decides.{nat_tests}
 use Rattle.std.specs.Io.KnownBytes.{Appends}
 use Rattle.ax_io.specs.Parts.{AppendsFront}
-use Rattle.ax_tool.specs.declared.script.Script.{Script}
-use Rattle.ax_tool.specs.declared.script.Refusal.{Refusal}
-use Rattle.ax_tool.specs.Script.{script_of}
+use Rattle.ax_script.specs.declared.error.ScriptErr.{ScriptErr}
+use Rattle.ax_script.specs.declared.script.Script.{Script}
+use Rattle.ax_script.specs.Script.{script}
+use Rattle.ax_tool.specs.Built.{if_built, script_of}
 use Rattle.ax_tool.specs.Run.{replay_text}
 use Rattle.ax_tool.specs.Answer.{text_of, refusal_text}
 use Rattle.ax_tool.specs.Ends.{Replayed, Refuses, WritesFront}
@@ -15,26 +16,27 @@ use Rattle.ax_tool.specs.Ends.{Replayed, Refuses, WritesFront}
 not_below : (a b : ℕ) → nat_lt a b ≡ false → b ≤ a
 not_below a b e = grind (arith, nat_tests)
 
-front_at : (bs : List ℕ) (b : Bool) → nat_lt 67108864 (length bs) ≡ b → script_of (take 67108865 bs) ≡ script_of bs
-unfolding script_of
+front_at : (bs : List ℕ) (b : Bool) → nat_lt 67108864 (length bs) ≡ b → script (take 67108865 bs) ≡ script bs
+unfolding script
 front_at bs true e =
     let long : 67108864 < length bs = ltb-true 67108864 (length bs) e in
     let n : 67108864 < length (take 67108865 bs) = omega (arith, length-take 67108865 bs) in
     rw (lt-ltb _ _ n, e)
-front_at bs false e = ap script_of (take_all 67108865 bs (let h : length bs ≤ 67108864 = not_below _ _ e in omega arith))
+front_at bs false e = ap script (take_all 67108865 bs (let h : length bs ≤ 67108864 = not_below _ _ e in omega arith))
 
 pub same_of_front : (bs : List ℕ) → script_of (take 67108865 bs) ≡ script_of bs
-same_of_front bs = front_at bs (nat_lt 67108864 (length bs)) refl
+unfolding script_of
+same_of_front bs = ap if_built (front_at bs (nat_lt 67108864 (length bs)) refl)
 
 short_at : (bs : List ℕ) (s : Script) (b : Bool) → nat_lt 67108864 (length bs) ≡ b → script_of bs ≡ Ok s → length bs ≤ 67108864
-unfolding script_of
+unfolding script_of script
 short_at bs s true e is = let bad = rw e at is in cc
 short_at bs s false e is = not_below _ _ e
 
 pub script_is_short : (bs : List ℕ) (s : Script) → script_of bs ≡ Ok s → length bs ≤ 67108864
 script_is_short bs s is = short_at bs s (nat_lt 67108864 (length bs)) refl is
 
-replayed_at : (b text : List ℕ) (rest held now : Option (List ℕ)) (r : Result Script Refusal) → script_of b ≡ r → rest ≡ Some (drop 67108865 b) → true ≡ is_ok r → text ≡ text_of r → Appends held now text
+replayed_at : (b text : List ℕ) (rest held now : Option (List ℕ)) (r : Result Script ScriptErr) → script_of b ≡ r → rest ≡ Some (drop 67108865 b) → true ≡ is_ok r → text ≡ text_of r → Appends held now text
     → (s : Script) × (script_of b ≡ Ok s) × (rest ≡ Some []) × Appends held now (replay_text s)
 replayed_at b text rest held now (Ok s) is end ok t h = (s, is, end ∙ ap Some (drop_all 67108865 b (let short : length b ≤ 67108864 = script_is_short b s is in omega arith)), rw (← t) h)
 replayed_at b text rest held now (Err r) is end ok t h = cc
@@ -46,8 +48,8 @@ replayed (Some b) rest held now bytes text whole end t ok h =
     let same : script_of bytes ≡ script_of b = ap script_of whole ∙ same_of_front b in
     replayed_at b text rest held now (script_of b) refl end (ok ∙ ap is_ok same) (t ∙ ap text_of same) h
 
-refuses_at : (b text : List ℕ) (held now : Option (List ℕ)) (r : Result Script Refusal) → script_of b ≡ r → false ≡ is_ok r → text ≡ text_of r → Appends held now text
-    → (e : Refusal) × (script_of b ≡ Err e) × Appends held now (refusal_text e)
+refuses_at : (b text : List ℕ) (held now : Option (List ℕ)) (r : Result Script ScriptErr) → script_of b ≡ r → false ≡ is_ok r → text ≡ text_of r → Appends held now text
+    → (e : ScriptErr) × (script_of b ≡ Err e) × Appends held now (refusal_text e)
 refuses_at b text held now (Ok s) is ok t h = cc
 refuses_at b text held now (Err e) is ok t h = (e, is, rw (← t) h)
 

@@ -2,9 +2,9 @@
 use Rattle.std.specs.Prelude.{◌≡◌, ℕ, List, [], Option, Some, Ok, Err, Bool, true, false, IfSome}
 use Rattle.std.specs.Io.KnownBytes.{Appends}
 use Rattle.ax_io.specs.Parts.{AppendsFront}
-use Rattle.ax_tool.specs.declared.script.Script.{Script}
-use Rattle.ax_tool.specs.declared.script.Refusal.{Refusal}
-use Rattle.ax_tool.specs.Script.{script_of}
+use Rattle.ax_script.specs.declared.error.ScriptErr.{ScriptErr}
+use Rattle.ax_script.specs.declared.script.Script.{Script}
+use Rattle.ax_tool.specs.Built.{script_of}
 use Rattle.ax_tool.specs.Run.{replay_text}
 use Rattle.ax_tool.specs.Answer.{refusal_text, text_of, usage_text}
 
@@ -14,7 +14,7 @@ Replayed left rest held now = IfSome left (λ b. (s : Script) × (script_of b �
 
 -- the bytes left were refused, and the sink grew by the refusal's line
 abbrev pub Refuses : Option (List ℕ) → Option (List ℕ) → Option (List ℕ) → Type 0
-Refuses left held now = IfSome left (λ b. (r : Refusal) × (script_of b ≡ Err r) × Appends held now (refusal_text r))
+Refuses left held now = IfSome left (λ b. (e : ScriptErr) × (script_of b ≡ Err e) × Appends held now (refusal_text e))
 
 -- the sink grew by a first part of the text
 abbrev pub WritesFront : Option (List ℕ) → Option (List ℕ) → Option (List ℕ) → Type 0

@@ -1,5 +1,6 @@
 pub mod Answer
+pub mod Built
 pub mod Ends
 pub mod Run
-pub mod Script
 pub mod Status
+pub mod Writing

@@ -1,10 +1,19 @@
 //! One frame, and what receives its packets.
 ghost use Rattle.std.specs.Prelude.{◌≡◌, OnOk};
-ghost use Rattle.ax_tool.specs.Run.{new_frame, packet_of, sent, frame_after, mirror_of};
+ghost use Rattle.ax_tool.specs.Run.{edit_step, step_of, new_frame, packet_of, sent, frame_after, mirror_of, last_mirror};
 
-use crate::script::FrameOp;
+use ax_ask::FrameOp;
 use ax_base::{NodeId, Seq};
+use ax_tree::Edit;
 use std::alloc::{AllocError, Global};
+
+/// What an operation does to a source of one node at most.
+#[derive(Clone, Copy, Debug, PartialEq, Eq)]
+pub enum Step {
+    Root(NodeId),
+    Pass,
+    Nothing,
+}
 
 /// The whole source at a pass.
 #[derive(Clone, Copy, Debug, PartialEq, Eq)]
@@ -19,6 +28,25 @@ pub struct Frame {
     pub root: Option<NodeId>,
     pub edited: bool,
     pub packets: Seq<Packet>,
+}
+
+fn edit_step(edit: &Edit) -> Step
+    ensures { result ≡ edit_step edit.now }
+{
+    match edit {
+        Edit::Root(node) => Step::Root(node.id),
+        _ => Step::Nothing,
+    }
+}
+
+pub(crate) fn step_of(op: &FrameOp) -> Step
+    ensures { result ≡ step_of op.now }
+{
+    match op {
+        FrameOp::Edit(edit) => edit_step(edit),
+        FrameOp::Pass => Step::Pass,
+        _ => Step::Nothing,
+    }
 }
 
 pub(crate) fn new_frame(alloc: Global) -> Frame
@@ -65,26 +93,27 @@ fn send(frame: &mut Frame, packet: Option<Packet>) -> Result<(), AllocError>
     }
 }
 
-/// One operation more.
+/// One step more.
 #[tactic(auto, unfolding(crate::specs::Run::frame_after))]
-pub(crate) fn advance(frame: &mut Frame, op: FrameOp) -> Result<(), AllocError>
-    ensures { OnOk result (frame.new ≡ frame_after frame.old op) }
+pub(crate) fn advance(frame: &mut Frame, step: Step) -> Result<(), AllocError>
+    ensures { OnOk result (frame.new ≡ frame_after frame.old step) }
 {
-    match op {
-        FrameOp::Root(node) => {
+    match step {
+        Step::Root(node) => {
             frame.root = Some(node);
             frame.edited = true;
             Ok(())
         }
-        FrameOp::Pass => {
+        Step::Pass => {
             let packet = packet_of(frame);
             send(frame, packet)
         }
+        Step::Nothing => Ok(()),
     }
 }
 
 /// The mirror after these packets: the root of its tree.
-pub(crate) fn mirror_of(packets: &[Packet]) -> Option<NodeId>
+fn mirror_of(packets: &[Packet]) -> Option<NodeId>
     ensures { result ≡ mirror_of packets.now }
 {
     let mut mirror = None;
@@ -92,4 +121,14 @@ pub(crate) fn mirror_of(packets: &[Packet]) -> Option<NodeId>
         mirror = Some(packet.root);
     }
     mirror
+}
+
+/// The mirror after these packets and a last one.
+pub(crate) fn last_mirror(packets: &[Packet], last: Option<Packet>) -> Option<NodeId>
+    ensures { result ≡ last_mirror packets.now last }
+{
+    match last {
+        None => mirror_of(packets),
+        Some(packet) => Some(packet.root),
+    }
 }

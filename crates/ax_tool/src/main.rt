@@ -5,9 +5,9 @@
 #![tactic(auto)]
 
 mod answer;
+mod built;
 mod frame;
 mod run;
-mod script;
 mod top;
 
 use crate::top::{Status, calm_main};

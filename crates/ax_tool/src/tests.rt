@@ -45,46 +45,100 @@ fn a_script_is_replayed(rt: HostRuntime) -> Result<(), Fail> {
 
     let (status, text) = replayed(
         alloc,
-        b"{\"order\":\"\",\"version\":1,\"frames\":[{\"tree\":1,\"ops\":[]}]}",
+        b"{\"order\":\"\",\"version\":2,\"readers\":[[]],\"frames\":[{\"tree\":1,\"ops\":[]}],\"actions\":[{\"do\":\"focus\",\"tree\":1,\"node\":1}]}",
     )?;
     assert_eq!(&rt; status, Status::Ok);
     assert_eq!(&rt; text.as_slice(), b"finale\ndump\ntree 1 empty\n".as_slice());
 
     let (status, text) = replayed(
         alloc,
-        b"{\"version\":1,\"frames\":[{\"tree\":7,\"ops\":[{\"op\":\"pass\"},{\"op\":\"root\",\"node\":1},{\"op\":\"pass\"},{\"op\":\"pass\"},{\"op\":\"root\",\"node\":5},{\"op\":\"pass\"}]}]}",
+        b"{\"version\":1,\"frames\":[{\"tree\":7,\"ops\":[{\"op\":\"pass\"},{\"op\":\"root\",\"node\":1},{\"op\":\"pass\"},{\"op\":\"pass\"},{\"op\":\"root\",\"node\":5},{\"op\":\"pass\"},{\"op\":\"root\",\"node\":6}]}]}",
     )?;
     assert_eq!(&rt; status, Status::Ok);
     assert_eq!(&rt;
         text.as_slice(),
-        b"finale\nf7 pass nothing\nf7 root 1 ok\nf7 pass 1 base 0 token 0\n  u clear 0 root 1 list 1 data\nf7 pass nothing\nf7 root 5 ok\nf7 pass 2 base 0 token 0\n  u clear 0 root 5 list 5 data\na7 applied 1\na7 applied 2\ndump\ntree 7 parent 0 focused 0 loaded no focus 0 sel 0 0 0 0 title \"\" url \"\"\n5 generic\n".as_slice()
+        b"finale\nf7 pass nothing\nf7 root 1 ok\nf7 pass 1 base 0 token 0\n  u clear 0 root 1 list 1 data\nf7 pass nothing\nf7 root 5 ok\nf7 pass 2 base 0 token 0\n  u clear 0 root 5 list 5 data\nf7 root 6 ok\na7 applied 1\na7 applied 2\nb ask 7 token 1\nd7:1\nf7 pass 3 base 0 token 1\n  u clear 0 root 6 list 6 data\na7 applied 3\ndump\ntree 7 parent 0 focused 0 loaded no focus 0 sel 0 0 0 0 title \"\" url \"\"\n6 generic\n".as_slice()
     );
     Ok(())
 }
 
+/// Bytes that are no script, and the rest of the line that tells it.
+const GRAMMAR: [(&str, &str); 10] = [
+    ("", "NotJson"),
+    ("{\"version\":1,", "NotJson"),
+    ("{\"x\":1}", "UnknownMember $"),
+    ("{}", "Missing $.version"),
+    ("[]", "BadType $"),
+    ("{\"version\":1,\"frames\":[]}", "BadCount $.frames"),
+    ("{\"version\":1.0}", "BadNumber $.version"),
+    (
+        "{\"version\":1,\"frames\":[{\"tree\":1,\"ops\":[{\"op\":\"touch\",\"node\":1},{\"op\":\"fly\"}]}]}",
+        "BadName $.frames[0].ops[1].op",
+    ),
+    (
+        "{\"version\":1,\"frames\":[{\"tree\":1001,\"ops\":[]}]}",
+        "BadNumber $.frames[0].tree",
+    ),
+    (
+        "{\"version\":1,\"frames\":[{\"tree\":1,\"ops\":[]}],\"order\":\"f1 f2\"}",
+        "BadOrder 2",
+    ),
+];
+
+/// Scripts that the program can't run yet, and the path of the first thing that isn't built.
+const UNBUILT: [(&str, &str); 9] = [
+    (
+        "{\"version\":1,\"frames\":[{\"tree\":1,\"ops\":[{\"op\":\"pass\"},{\"op\":\"touch\",\"node\":1}]}],\"order\":\"b\"}",
+        "$.frames[0].ops[1].op",
+    ),
+    (
+        "{\"version\":1,\"frames\":[{\"tree\":1,\"ops\":[{\"op\":\"root\",\"node\":1,\"rect\":[0,0,1,1],\"role\":\"button\"}]}]}",
+        "$.frames[0].ops[0].role",
+    ),
+    (
+        "{\"version\":1,\"frames\":[{\"tree\":1,\"ops\":[{\"op\":\"root\",\"node\":1,\"states\":[\"ignored\"]}]}]}",
+        "$.frames[0].ops[0].states",
+    ),
+    (
+        "{\"version\":1,\"frames\":[{\"tree\":1,\"ops\":[{\"op\":\"root\",\"node\":1,\"attrs\":{\"name\":\"\"}}]}]}",
+        "$.frames[0].ops[0].attrs",
+    ),
+    (
+        "{\"version\":1,\"frames\":[{\"tree\":1,\"ops\":[{\"op\":\"root\",\"node\":1,\"rect\":[0,0,0,1]}]}]}",
+        "$.frames[0].ops[0].rect",
+    ),
+    (
+        "{\"version\":1,\"frames\":[{\"tree\":1,\"ops\":[]},{\"tree\":2,\"ops\":[]}]}",
+        "$.frames[1]",
+    ),
+    (
+        "{\"version\":1,\"frames\":[{\"tree\":1,\"ops\":[]}],\"browser\":[{\"op\":\"ask\",\"tree\":1}],\"order\":\"b\"}",
+        "$.browser[0].op",
+    ),
+    (
+        "{\"version\":1,\"frames\":[{\"tree\":1,\"ops\":[]}],\"readers\":[[],[{\"q\":\"focus\"}]],\"order\":\"r2\"}",
+        "$.readers[1][0].q",
+    ),
+    (
+        "{\"version\":1,\"frames\":[{\"tree\":1,\"ops\":[]}],\"browser\":[],\"readers\":[[]],\"order\":\"b\"}",
+        "$.order",
+    ),
+];
+
 #[test]
 fn other_bytes_are_refused(rt: HostRuntime) -> Result<(), Fail> {
     let alloc = rt.alloc();
-    for bytes in [
-        b"{\"version\":1,".as_slice(),
-        b"".as_slice(),
-        b"\"\xff\"".as_slice(),
-    ] {
-        let (status, text) = replayed(alloc, bytes)?;
+    for (bytes, refusal) in GRAMMAR {
+        let line = format!(in alloc; "script {refusal}\n")?;
+        let (status, text) = replayed(alloc, bytes.as_bytes())?;
         assert_eq!(&rt; status, Status::Script);
-        assert_eq!(&rt; text.as_slice(), b"script NotJson\n".as_slice());
+        assert_eq!(&rt; text.as_slice(), line.as_bytes());
     }
-    for bytes in [
-        b"{}".as_slice(),
-        b"{\"version\":1.0,\"frames\":[{\"tree\":1,\"ops\":[]}]}".as_slice(),
-        b"{\"version\":1,\"frames\":[{\"tree\":1,\"ops\":[]}],\"order\":\"a1\"}".as_slice(),
-        b"{\"version\":1,\"frames\":[{\"tree\":1001,\"ops\":[]}]}".as_slice(),
-        b"{\"version\":1,\"frames\":[{\"tree\":1,\"ops\":[{\"op\":\"root\",\"node\":1}]}]}".as_slice(),
-        b"{\"version\":1,\"frames\":[{\"tree\":1,\"ops\":[]},{\"tree\":2,\"ops\":[]}]}".as_slice(),
-    ] {
-        let (status, text) = replayed(alloc, bytes)?;
+    for (bytes, path) in UNBUILT {
+        let line = format!(in alloc; "script NotBuilt {path}\n")?;
+        let (status, text) = replayed(alloc, bytes.as_bytes())?;
         assert_eq!(&rt; status, Status::Script);
-        assert_eq!(&rt; text.as_slice(), b"script NotBuilt $\n".as_slice());
+        assert_eq!(&rt; text.as_slice(), line.as_bytes());
     }
     Ok(())
 }

@@ -4,7 +4,7 @@ ghost use Rattle.std.specs.Io.KnownBytes.{Appends, Keeps};
 ghost use Rattle.ax_io.specs.Causes.{Rose};
 ghost use Rattle.ax_io.specs.Parts.{AppendsFront};
 ghost use Rattle.ax_words.specs.Words.{command_of};
-ghost use Rattle.ax_tool.specs.Script.{script_of};
+ghost use Rattle.ax_tool.specs.Built.{script_of};
 ghost use Rattle.ax_tool.specs.Answer.{is_built, usage_text};
 ghost use Rattle.ax_tool.specs.Ends.{Replayed, Refuses, WritesFront, WritesPart};
 

@@ -1,4 +1,4 @@
-use Rattle.std.proofs.Common.{◌≡◌, false, true, sym, ◌∙◌}
+use Rattle.std.proofs.Common.{false, true, sym, ◌∙◌}
 use Rattle.ax_shapes.specs.Looks.{is_attr}
 use Rattle.ax_shapes.proofs.Attrs.{names_step}
 use Rattle.ax_shapes.proofs.look.all_named.Goals as goal
