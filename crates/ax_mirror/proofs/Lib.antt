@@ -1,0 +1,13 @@
+pub mod Looks
+pub mod Lists
+pub mod Tracks
+pub mod Walks
+pub mod Hangs
+pub mod Together
+pub mod Placings
+pub mod Runs
+pub mod Begins
+pub mod Finishes
+pub mod Updates
+pub mod Shows
+pub mod Bundles

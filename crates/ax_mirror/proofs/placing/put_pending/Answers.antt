@@ -1,0 +1,27 @@
+use Rattle.std.proofs.Common.{◌≡◌, ◌∙◌, ap, sym, ℕ, List, ◌∷◌, [], ◌++◌, refl, cond, eqb, true, subst, arith, Option}
+use Rattle.std.proofs.lemmas.Bool.Decides.{eqb_tells}
+use Rattle.std.specs.FinMap as map
+use Rattle.ax_node.specs.declared.node.NodeData.{NodeData}
+use Rattle.ax_trees.specs.Lists.{contains}
+use Rattle.ax_mirror.specs.Placed.{Nodes}
+use Rattle.ax_mirror.specs.declared.entries.Entry.{Entry}
+use Rattle.ax_mirror.proofs.Looks.{get_insert, at_other}
+use Rattle.ax_mirror.proofs.Lists.{contains_push}
+use Rattle.ax_mirror.proofs.Placings.{pushed_here, pushed_more}
+use Rattle.ax_mirror.proofs.Tracks.{track_touch}
+use Rattle.ax_mirror.proofs.placing.put_pending.Goals as goal
+
+abbrev pending_at : Option ℕ → ℕ → NodeData → Entry
+pending_at above level n = record { above = above; level = level; pending = true; node = n }
+
+pub returns-clause-puts : goal.returns-clause-puts
+returns-clause-puts g c = record {
+  root = refl;
+  nodes = c.in_ok-put.ensures.ok ∙ ap (λ (n : NodeData). map.insert c.args.draft.now.nodes c.args.id (pending_at c.args.above c.args.level n)) c.blank.ensures;
+  made = pushed_here _ _ c.args.id c.in_ok-push.ensures.ok;
+  grows = λ y h. pushed_more _ _ c.args.id y c.in_ok-push.ensures.ok h;
+}
+
+pub returns-clause-tracked : goal.returns-clause-tracked
+returns-clause-tracked g c =
+    track_touch c.args.draft.now _ c.args.id (λ z h. at_other _ _ _ _ h (ap (λ (m : Nodes). map.get m z) c.in_ok-put.ensures.ok ∙ get_insert c.args.draft.now.nodes c.args.id _ z)) c.in_ok-put.ensures.touched

@@ -1,0 +1,36 @@
+use Rattle.std.proofs.Common.{◌≡◌, ◌∙◌, ap, sym, ℕ, refl, inr, arith, cond, eqb, ◌<◌, subst, None}
+use Rattle.std.specs.FinMap as map
+use Rattle.ax_mirror.specs.Placed.{Nodes}
+use Rattle.ax_mirror.proofs.Looks.{get_remove, len_falls, at_other}
+use Rattle.ax_mirror.proofs.Walks.{left_begins, left_next, left_ends, less_next}
+use Rattle.ax_mirror.proofs.Tracks.{track_start, track_then, track_touch, costs_then}
+use Rattle.ax_mirror.proofs.removing.take_out.Goals as goal
+
+pub loop-id-smaller : goal.loop-id-smaller
+loop-id-smaller g c =
+    subst (λ (m : Nodes). map.len m < map.len c.loop-id.draft.nodes) (sym c.in_ok-take.ensures.ok) (len_falls c.loop-id.draft.nodes c.in-Some.id c.in-Some-read.entry.now c.in-Some-read.ensures)
+
+pub loop-id-init : goal.loop-id-init
+loop-id-init g c = record { root = refl; made = refl; less = λ z. inr refl; left = λ k t h. left_begins k _ _ t h; tracked = track_start _; cost = omega arith }
+
+pub loop-id-preserved : goal.loop-id-preserved
+loop-id-preserved g c =
+    let gone : (z : ℕ) → map.get c.take.new.nodes z ≡ cond (eqb c.in-Some.id z) None (map.get c.loop-id.draft.nodes z) =
+    (λ z. ap (λ (m : Nodes). map.get m z) c.in_ok-take.ensures.ok ∙ get_remove c.loop-id.draft.nodes c.in-Some.id z) in
+    record {
+      root = c.loop-id.invariant.root;
+      made = c.loop-id.invariant.made;
+      less = λ z. less_next _ _ _ (eqb c.in-Some.id z) (c.loop-id.invariant.less z) (gone z);
+      left = λ k t h.
+          left_next k _ _ _ _ _ _ c.in-Some.id c.in-Some-read.entry.now (c.loop-id.invariant.left k t h) c.in-Some.ensures c.in-Some-read.ensures gone c.in_ok-push_reversed.ensures.ok;
+      tracked = track_then _ c.loop-id.draft _ c.loop-id.invariant.tracked (track_touch c.loop-id.draft _ c.in-Some.id (λ z h. at_other _ _ _ _ h (gone z)) c.in_ok-take.ensures.touched);
+      cost = costs_then _ _ _ _ _ _ c.loop-id.invariant.cost c.in_ok-take.ensures.cost;
+    }
+
+pub returns-clause-out : goal.returns-clause-out
+returns-clause-out g c = record {
+  root = c.loop-id.invariant.root;
+  made = c.loop-id.invariant.made;
+  less = c.loop-id.invariant.less;
+  out = λ k t h. left_ends k _ _ _ (c.loop-id.invariant.left k t h) c.in_default.ensures.0;
+}

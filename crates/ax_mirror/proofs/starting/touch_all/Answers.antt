@@ -1,0 +1,49 @@
+use Rattle.std.proofs.Common.{◌≡◌, ◌∙◌, ◌++◌, ◌∷◌, ap, sym, subst, refl, ℕ, List, [], true, None, Some, arith}
+use Rattle.std.specs.Prelude.{Option, option_to_list}
+use Rattle.std.proofs.lemmas.Bool.{false≢true}
+use Rattle.std.specs.FinMap as map
+use Rattle.ax_mirror.specs.Placed.{Nodes}
+use Rattle.ax_mirror.specs.Kept.{Keeps}
+use Rattle.ax_mirror.proofs.Begins.{unseen_begins, unseen_next, all_seen, none_there, longer_with, grows_with}
+use Rattle.ax_mirror.proofs.starting.touch_all.Goals as goal
+
+pub returns-in_default : goal.returns-in_default
+returns-in_default c = record {
+  nodes = refl;
+  root = refl;
+  made = refl;
+  grows = λ z h. h;
+  longer = omega arith;
+  all = λ w k z h. absurd (false≢true (sym (none_there w z (k.tops ∙ ap (λ (o : Option ℕ). option_to_list o) c.in_default.is)) ∙ h));
+}
+
+pub loop-round-init : goal.loop-round-init
+loop-round-init c = record {
+  nodes = refl;
+  root = refl;
+  made = refl;
+  grows = λ z h. h;
+  longer = omega arith;
+  walk = λ w k. unseen_begins w c.args.draft.now.nodes c.in-Some.root _ _ (subst (λ (o : Option ℕ). Keeps c.args.draft.now.nodes o w) c.in-Some.is k) (c.in_ok-push.ensures.ok ∙ ap (λ (js : List ℕ). js ++ c.in-Some.root ∷ []) c.new-stack.ensures);
+}
+
+pub loop-round-preserved : goal.loop-round-preserved
+loop-round-preserved c = record {
+  nodes = c.loop-round.invariant.nodes;
+  root = c.loop-round.invariant.root;
+  made = c.loop-round.invariant.made;
+  grows = λ z h. grows_with _ _ c.in-Some-pop.id z c.in_ok-add.ensures.ok (c.loop-round.invariant.grows z h);
+  longer = longer_with _ _ c.in-Some-pop.id _ c.in_ok-add.ensures.ok c.loop-round.invariant.longer;
+  walk = λ w k. unseen_next w c.args.draft.now.nodes _ _ _ _ _ c.in-Some-pop.id c.in-Some-read.entry.now (c.loop-round.invariant.walk w k) c.in-Some-pop.ensures
+      (c.in-Some-read.ensures ∙ ap (λ (m : Nodes). map.get m c.in-Some-pop.id) c.loop-round.invariant.nodes) c.in_ok-add.ensures.ok c.in_ok-push_reversed.ensures.ok;
+}
+
+pub returns-in_default-pop : goal.returns-in_default-pop
+returns-in_default-pop c = record {
+  nodes = c.loop-round.invariant.nodes;
+  root = c.loop-round.invariant.root;
+  made = c.loop-round.invariant.made;
+  grows = c.loop-round.invariant.grows;
+  longer = c.loop-round.invariant.longer;
+  all = λ w k z h. all_seen w _ _ _ (c.loop-round.invariant.walk w k) c.in_default-pop.ensures.0 z h;
+}

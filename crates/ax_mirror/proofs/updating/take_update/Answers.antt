@@ -1,0 +1,53 @@
+use Rattle.std.proofs.Common.{◌≡◌, ◌⊎◌, ⊎_elim, inl, inr, ◌∙◌, ap, sym, subst, refl, ℕ, List, None, Some, Err}
+use Rattle.std.specs.Prelude.{Option}
+use Rattle.ax_node.specs.Look.{Look}
+use Rattle.ax_node.specs.declared.node.NodeData.{NodeData}
+use Rattle.ax_trees.specs.Trees.{Trees}
+use Rattle.ax_tree.specs.declared.update.TreeUpdate.{TreeUpdate}
+use Rattle.ax_tree.specs.UpdateRule.{draft_of, started, missing}
+use Rattle.ax_mirror.specs.declared.draft.Draft.{Draft}
+use Rattle.ax_mirror.specs.Kept.{Keeps, Holds}
+use Rattle.ax_mirror.specs.Steps.{Gives, Settled, Makes, all_taken}
+use Rattle.ax_mirror.specs.Finishes.{Finished, Unfinished}
+use Rattle.ax_mirror.proofs.Tracks.{made_then}
+use Rattle.ax_mirror.proofs.Updates.{settled_of, missing_same, refused_clear, refused_node, refused_end, gives_trees}
+use Rattle.ax_mirror.proofs.updating.take_update.Goals as goal
+
+abbrev cleared_made : Draft → List ℕ → Draft
+cleared_made d made = record { nodes = d.nodes; root = d.root; touched = d.touched; made = made }
+
+pub returns-in-Some-clause-err : goal.returns-in-Some-clause-err
+returns-in-Some-clause-err g c = λ f h.
+    inr (refused_clear c.args.update.now f c.in-Some.id (sym (missing_same c.args.draft.now.nodes c.args.draft.now.root f c.args.update.now.clear h) ∙ sym c.in-Some.ensures))
+
+pub returns-in-Err-take_nodes-clause-err : goal.returns-in-Err-take_nodes-clause-err
+returns-in-Err-take_nodes-clause-err g c = λ f h.
+    let u : TreeUpdate = c.args.update.now in
+    let mi : missing f u.clear ≡ None = sym (missing_same c.args.draft.now.nodes c.args.draft.now.root f u.clear h) ∙ sym c.in-None.ensures in
+    let w : Trees (Option Look) = started u.root u.clear (draft_of f) in
+    let k : Keeps c.start.new.draft.nodes c.start.new.draft.root w = c.in-Ok.ensures.ok (draft_of f) h.keeps in
+    ⊎_elim (λ q. inl q) (λ q. inr (refused_node u f c.in-Err-take_nodes.refusal mi (ap (λ (us : List NodeData). all_taken w us) (sym c.as_slice.ensures) ∙ q))) (c.in-Err-take_nodes.ensures.err w k)
+
+pub returns-in-Ok-finish-clause-ok : goal.returns-in-Ok-finish-clause-ok
+returns-in-Ok-finish-clause-ok g c = λ f h.
+    let u : TreeUpdate = c.args.update.now in
+    let e : Draft = c.take_nodes.new.draft in
+    let mi : missing f u.clear ≡ None = sym (missing_same c.args.draft.now.nodes c.args.draft.now.root f u.clear h) ∙ sym c.in-None.ensures in
+    let w : Trees (Option Look) = started u.root u.clear (draft_of f) in
+    let k : Keeps c.start.new.draft.nodes c.start.new.draft.root w = c.in-Ok.ensures.ok (draft_of f) h.keeps in
+    let gives : Gives e (all_taken w u.nodes) = subst (λ (us : List NodeData). Gives e (all_taken w us)) c.as_slice.ensures (c.in-Ok-take_nodes.ensures.ok w k) in
+    let fin : Finished e.nodes e.made = subst (λ (js : List ℕ). Finished e.nodes js) c.as_slice-2.ensures c.in-Ok-finish.ensures.ok in
+    let d : Draft = cleared_made c.args.draft.now c.clear.new.self in
+    gives_trees u f e mi gives fin (settled_of d e f h (made_then d c.start.new.draft e c.in-Ok.ensures.made c.in-Ok-take_nodes.ensures.made))
+
+pub returns-in-Err-finish-clause-err : goal.returns-in-Err-finish-clause-err
+returns-in-Err-finish-clause-err g c = λ f h.
+    let u : TreeUpdate = c.args.update.now in
+    let e : Draft = c.take_nodes.new.draft in
+    let mi : missing f u.clear ≡ None = sym (missing_same c.args.draft.now.nodes c.args.draft.now.root f u.clear h) ∙ sym c.in-None.ensures in
+    let w : Trees (Option Look) = started u.root u.clear (draft_of f) in
+    let k : Keeps c.start.new.draft.nodes c.start.new.draft.root w = c.in-Ok.ensures.ok (draft_of f) h.keeps in
+    let gives : Gives e (all_taken w u.nodes) = subst (λ (us : List NodeData). Gives e (all_taken w us)) c.as_slice.ensures (c.in-Ok-take_nodes.ensures.ok w k) in
+    let fin : Unfinished e.nodes e.made c.in-Err-finish.refusal = subst (λ (js : List ℕ). Unfinished e.nodes js c.in-Err-finish.refusal) c.as_slice-2.ensures c.in-Err-finish.ensures.err in
+    let d : Draft = cleared_made c.args.draft.now c.clear.new.self in
+    inr (refused_end u f gives.next c.in-Err-finish.refusal mi gives.is (fin e.root gives.next gives.keeps (settled_of d e f h (made_then d c.start.new.draft e c.in-Ok.ensures.made c.in-Ok-take_nodes.ensures.made))))

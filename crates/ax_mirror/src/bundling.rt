@@ -1,0 +1,89 @@
+ghost use Rattle.std.specs.Prelude.{◌≡◌, ◌≤◌, ◌+◌, [], length, OnOk, IfOk, IfErr, None};
+ghost use Rattle.std.specs.FinMap as map;
+ghost use Rattle.ax_tree.specs.Updates.{applied, applied_all};
+ghost use Rattle.ax_mirror.specs.Begins.{Forgets};
+ghost use Rattle.ax_mirror.specs.Mirrors.{Applies, IsRefused, IsBroken, TrackedHeld};
+
+use crate::draft::Draft;
+use crate::entries::Entries;
+use crate::starting::touch_all;
+use crate::touching::Touched;
+use crate::updating::{take_update, tell};
+use ax_base::{Ids, NoMemory, NodeId};
+use ax_node::TreeData;
+use ax_pages::Steps;
+use ax_tree::{BundleErr, Refusal, TreeUpdate};
+use std::alloc::Global;
+use std::sync::ledger::Ledger;
+
+/// A draft that shares the nodes.
+pub fn begin(nodes: &Entries, root: Option<NodeId>, alloc: Global) -> Result<Draft, NoMemory>
+    ensures { IfOk result (λ d. (d.nodes ≡ nodes.now) × (d.root ≡ root) × (d.touched ≡ [])) }
+{
+    let nodes = nodes.share()?;
+    Ok(Draft {
+        nodes,
+        root,
+        touched: Touched::new(alloc),
+        made: Ids::new(alloc),
+    })
+}
+
+/// A draft of no node, in which all ids of the old ones are touched.
+pub fn begin_anew(nodes: &Entries, root: Option<NodeId>, alloc: Global) -> Result<Draft, NoMemory>
+    ensures { IfOk result (λ d. Forgets nodes.now root d) }
+{
+    let mut draft = begin(nodes, root, alloc)?;
+    touch_all(&mut draft, alloc)?;
+    Ok(Draft {
+        nodes: Entries::new(alloc),
+        root: None,
+        touched: draft.touched,
+        made: draft.made,
+    })
+}
+
+/// Applies an update. After a refusal the draft is of no use.
+pub fn take_one<L: Ledger>(
+    draft: &mut Draft,
+    about: &mut TreeData,
+    update: &TreeUpdate,
+    alloc: Global,
+    steps: &mut Steps<L>,
+) -> Result<(), Refusal>
+    ensures ok { OnOk result (Applies (λ t. applied update.now t) draft.old about.old draft.new about.new) }
+    ensures err { IfErr result (λ r. IsRefused (λ t. applied update.now t) draft.old about.old r) }
+    ensures tracked { OnOk result (TrackedHeld draft.old draft.new) }
+    ensures cost { OnOk result (steps.new + length draft.old.touched ≤ steps.old + length draft.new.touched) }
+{
+    match take_update(draft, update, alloc, steps) {
+        Ok(()) => {}
+        Err(refusal) => return Err(refusal),
+    }
+    match tell(about, &update.tree_data) {
+        Ok(()) => Ok(()),
+        Err(_) => Err(Refusal::NoMemory),
+    }
+}
+
+/// Applies updates one after the other. After a refusal the draft is of no use.
+pub fn take_all<L: Ledger>(
+    draft: &mut Draft,
+    about: &mut TreeData,
+    updates: &[TreeUpdate],
+    alloc: Global,
+    steps: &mut Steps<L>,
+) -> Result<(), BundleErr>
+    ensures ok { OnOk result (Applies (λ t. applied_all updates.now t) draft.old about.old draft.new about.new) }
+    ensures err { IfErr result (λ r. IsBroken (λ t. applied_all updates.now t) draft.old about.old r) }
+    ensures tracked { OnOk result (TrackedHeld draft.old draft.new) }
+    ensures cost { OnOk result (steps.new + length draft.old.touched ≤ steps.old + length draft.new.touched) }
+{
+    for (at, update) in updates.iter().enumerate() {
+        match take_one(draft, about, update, alloc, steps) {
+            Ok(()) => {}
+            Err(why) => return Err(BundleErr { at, why }),
+        }
+    }
+    Ok(())
+}

@@ -1,0 +1,111 @@
+ghost use Rattle.std.specs.Prelude.{◌≡◌, ◌<◌, ◌≤◌, ◌+◌, length, OnOk, if◌then◌else◌};
+ghost use Rattle.std.specs.FinMap as map;
+ghost use Rattle.ax_mirror.specs.Once.{with_id};
+
+use crate::touching::Touched;
+use ax_base::{NoMemory, NodeId};
+use ax_node::NodeData;
+use ax_pages::{Paged, Steps};
+use std::marker::Brand;
+use std::sync::ledger::{Blank, Ledger};
+
+/// What stands at an id. A pending node was named, and its data haven't come.
+#[derive(Drop)]
+pub struct Entry {
+    pub above: Option<NodeId>,
+    /// How many nodes its chain has.
+    pub level: usize,
+    pub pending: bool,
+    pub node: NodeData,
+}
+
+/// Entries by id.
+pub type Entries = Paged<Entry>;
+
+/// Puts an entry at its id. It takes a step only where the id wasn't touched before.
+pub fn put<L: Ledger>(
+    nodes: &mut Entries,
+    id: NodeId,
+    entry: Entry,
+    touched: &mut Touched,
+    steps: &mut Steps<L>,
+) -> Result<(), NoMemory>
+    ensures ok { OnOk result (nodes.new ≡ map.insert nodes.old id entry) }
+    ensures touched { OnOk result (touched.new ≡ with_id touched.old id) }
+    ensures cost { OnOk result (steps.new + length touched.old ≤ steps.old + length touched.new) }
+{
+    let new = touched.add(id)?;
+    write_page(nodes, id, entry, new, steps)?;
+    Ok(())
+}
+
+/// Takes out the entry of an id. It takes a step only where the id wasn't touched before.
+pub fn take<L: Ledger>(
+    nodes: &mut Entries,
+    id: NodeId,
+    touched: &mut Touched,
+    steps: &mut Steps<L>,
+) -> Result<(), NoMemory>
+    ensures ok { OnOk result (nodes.new ≡ map.remove nodes.old id) }
+    ensures touched { OnOk result (touched.new ≡ with_id touched.old id) }
+    ensures cost { OnOk result (steps.new + length touched.old ≤ steps.old + length touched.new) }
+{
+    let new = touched.add(id)?;
+    erase_page(nodes, id, new, steps)?;
+    Ok(())
+}
+
+// One step where the id is new among the touched ones.
+fn write_page<L: Ledger>(
+    nodes: &mut Entries,
+    id: NodeId,
+    entry: Entry,
+    new: bool,
+    steps: &mut Steps<L>,
+) -> Result<(), NoMemory>
+    ensures ok { OnOk result (nodes.new ≡ map.insert nodes.old id entry) }
+    ensures cost { steps.new ≤ steps.old + (if new then 1 else 0) }
+{
+    if new {
+        return nodes.write(id, entry, steps);
+    }
+    write_again::<Brand>(nodes, id, entry, Blank::new(1))
+}
+
+fn erase_page<L: Ledger>(
+    nodes: &mut Entries,
+    id: NodeId,
+    new: bool,
+    steps: &mut Steps<L>,
+) -> Result<(), NoMemory>
+    ensures ok { OnOk result (nodes.new ≡ map.remove nodes.old id) }
+    ensures cost { steps.new ≤ steps.old + (if new then 1 else 0) }
+{
+    if new {
+        return nodes.erase(id, steps);
+    }
+    erase_again::<Brand>(nodes, id, Blank::new(1))
+}
+
+// The page of an id that was touched is this draft's own, or it went with its last entry: nothing is copied, so that there
+// is nothing to count.
+fn write_again<L: Ledger>(
+    nodes: &mut Entries,
+    id: NodeId,
+    entry: Entry,
+    blank: Blank,
+) -> Result<(), NoMemory>
+    requires { (blank.name ≡ L.name) × (blank.parts ≡ L.parts) × (0 < L.parts) }
+    ensures { OnOk result (nodes.new ≡ map.insert nodes.old id entry) }
+{
+    let mut steps: Steps<L> = Steps::start(blank);
+    nodes.write(id, entry, &mut steps)
+}
+
+fn erase_again<L: Ledger>(nodes: &mut Entries, id: NodeId, blank: Blank) -> Result<(), NoMemory>
+    requires { (blank.name ≡ L.name) × (blank.parts ≡ L.parts) × (0 < L.parts) }
+    ensures { OnOk result (nodes.new ≡ map.remove nodes.old id) }
+{
+    let mut steps: Steps<L> = Steps::start(blank);
+    nodes.erase(id, &mut steps)
+}
