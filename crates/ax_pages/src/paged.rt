@@ -104,14 +104,14 @@ impl<T: Drop> Paged<T> {
         Ok(())
     }
 
-    /// Puts a value at an id to which this owner has written since its last share, so that the page is its own. It takes
-    /// no step. Where the page has other owners after all, it answers want of memory.
-    pub fn rewrite(&mut self, id: NodeId, value: T) -> Result<(), NoMemory>
+    /// Puts a value at an id that this owner has written or erased since its last share, so that the page is its own. It
+    /// copies nothing and takes no step: where the page has other owners after all, it answers want of memory.
+    pub fn write_own(&mut self, id: NodeId, value: T) -> Result<(), NoMemory>
         ensures ok { OnOk result (self.new ≡ map.insert self.old id value) }
         ensures err { OnErr result (self.new ≡ self.old) }
     {
         let len = self.len_with(id)?;
-        self.table.rewrite(id, value)?;
+        self.table.write_own(id, value)?;
         self.len = len;
         Ok(())
     }
@@ -127,6 +127,19 @@ impl<T: Drop> Paged<T> {
             return Ok(());
         }
         self.table.erase(id, steps)?;
+        self.len -= 1;
+        Ok(())
+    }
+
+    /// Takes out the value at an id that this owner has written since its last share, like `write_own`.
+    pub fn erase_own(&mut self, id: NodeId) -> Result<(), NoMemory>
+        ensures ok { OnOk result (self.new ≡ map.remove self.old id) }
+        ensures err { OnErr result (self.new ≡ self.old) }
+    {
+        if self.table.read(id).is_none() {
+            return Ok(());
+        }
+        self.table.erase_own(id)?;
         self.len -= 1;
         Ok(())
     }

@@ -121,8 +121,8 @@ impl<T: Drop> Table<T> {
         Ok(())
     }
 
-    /// Takes no step. It answers want of memory where the page has other owners, or isn't there.
-    pub fn rewrite(&mut self, id: NodeId, value: T) -> Result<(), NoMemory>
+    /// Takes no step. It answers want of memory where the page has other owners.
+    pub fn write_own(&mut self, id: NodeId, value: T) -> Result<(), NoMemory>
         ensures ok { OnOk result (self.new ≡ map.insert self.old id value) }
         ensures err { OnErr result (self.new ≡ self.old) }
     {
@@ -131,10 +131,23 @@ impl<T: Drop> Table<T> {
             Err(_) => return Err(NoMemory),
         };
         match &mut self.pages {
-            Some(pages) => return put_in_own(pages, id.get(), value),
+            Some(pages) => return put_in_own(pages, id.get(), value, self.alloc),
             None => {}
         }
         Err(NoMemory)
+    }
+
+    /// Takes no step. It answers want of memory where the page has other owners.
+    pub fn erase_own(&mut self, id: NodeId) -> Result<(), NoMemory>
+        requires { IsSome (map.get self.old id) }
+        ensures ok { OnOk result (self.new ≡ map.remove self.old id) }
+        ensures err { OnErr result (self.new ≡ self.old) }
+    {
+        match &mut self.pages {
+            Some(pages) => return take_from_own(pages, id.get()),
+            None => {}
+        }
+        Ok(())
     }
 }
 
@@ -208,6 +221,22 @@ fn put_in_pages<T: Drop, L: Ledger>(
     if let Some(page) = pages.get_mut(&page_of(id)) {
         return set_in_page(page, place_of(id), Some(value), alloc, steps);
     }
+    put_in_new_page(pages, id, value, alloc)
+}
+
+/// Puts a value in a page of its own, where its page isn't there.
+fn put_in_new_page<T: Drop>(
+    pages: &mut HashMap<u32, Arc<Page<T>>>,
+    id: u32,
+    value: Arc<T>,
+    alloc: Global,
+) -> Result<(), NoMemory>
+    requires new { get nat_eq pages.old (id / 64) ≡ None }
+    requires used { EachIsUsed pages.old }
+    ensures ok { OnOk result (Puts pages.old pages.new id (Some (arc_value value))) }
+    ensures err { OnErr result (IsSame pages.old pages.new) }
+    ensures used { EachIsUsed pages.new }
+{
     let mut page = Page::new(alloc);
     page.set(place_of(id), Some(value))?;
     let page = match Arc::new(alloc, page) {
@@ -325,20 +354,20 @@ fn copy_of<T: Drop>(
     }
 }
 
-/// Puts a value in a page that has no other owner.
+/// Puts a value at its place in a page that has no other owner, or takes out what is there.
 fn set_in_own_page<T: Drop>(
     page: &mut Arc<Page<T>>,
     place: usize,
-    value: Arc<T>,
+    value: Option<Arc<T>>,
 ) -> Result<(), NoMemory>
     requires { place < 64 }
-    ensures ok { OnOk result ((j : ℕ) → slot (arc_value page.new) j ≡ (if nat_eq place j then Some (arc_value value) else slot (arc_value page.old) j)) }
-    ensures used { OnOk result (used_count (arc_value page.new) + one_if_some (slot (arc_value page.old) place) ≡ used_count (arc_value page.old) + 1) }
+    ensures ok { OnOk result ((j : ℕ) → slot (arc_value page.new) j ≡ (if nat_eq place j then option_map arc_value value else slot (arc_value page.old) j)) }
+    ensures used { OnOk result (used_count (arc_value page.new) + one_if_some (slot (arc_value page.old) place) ≡ used_count (arc_value page.old) + one_if_some (option_map arc_value value)) }
     ensures err { OnErr result ((j : ℕ) → slot (arc_value page.new) j ≡ slot (arc_value page.old) j) }
     ensures err_used { OnErr result (used_count (arc_value page.new) ≡ used_count (arc_value page.old)) }
 {
     if let Some(page) = Arc::get_mut(page) {
-        return page.set(place, Some(value));
+        return page.set(place, value);
     }
     Err(NoMemory)
 }
@@ -347,6 +376,7 @@ fn put_in_own_pages<T: Drop>(
     pages: &mut HashMap<u32, Arc<Page<T>>>,
     id: u32,
     value: Arc<T>,
+    alloc: Global,
 ) -> Result<(), NoMemory>
     requires { EachIsUsed pages.old }
     ensures ok { OnOk result (Puts pages.old pages.new id (Some (arc_value value))) }
@@ -354,9 +384,30 @@ fn put_in_own_pages<T: Drop>(
     ensures used { EachIsUsed pages.new }
 {
     if let Some(page) = pages.get_mut(&page_of(id)) {
-        return set_in_own_page(page, place_of(id), value);
+        return set_in_own_page(page, place_of(id), Some(value));
     }
-    Err(NoMemory)
+    put_in_new_page(pages, id, value, alloc)
+}
+
+/// Takes out a value where no page has another owner. A page goes with its last value.
+fn take_from_own_pages<T: Drop>(
+    pages: &mut HashMap<u32, Arc<Page<T>>>,
+    id: u32,
+) -> Result<(), NoMemory>
+    requires there { IsSome (value_at pages.old id) }
+    requires used { EachIsUsed pages.old }
+    ensures ok { OnOk result (Puts pages.old pages.new id None) }
+    ensures err { OnErr result (IsSame pages.old pages.new) }
+    ensures used { EachIsUsed pages.new }
+{
+    if has_single(pages, page_of(id)) {
+        let _ = pages.remove(&page_of(id));
+        return Ok(());
+    }
+    if let Some(page) = pages.get_mut(&page_of(id)) {
+        return set_in_own_page(page, place_of(id), None);
+    }
+    Ok(())
 }
 
 /// Puts a value where neither the table nor the page has another owner.
@@ -364,6 +415,7 @@ fn put_in_own<T: Drop>(
     pages: &mut Arc<HashMap<u32, Arc<Page<T>>>>,
     id: u32,
     value: Arc<T>,
+    alloc: Global,
 ) -> Result<(), NoMemory>
     requires { EachIsUsed (arc_value pages.old) }
     ensures ok { OnOk result (Puts (arc_value pages.old) (arc_value pages.new) id (Some (arc_value value))) }
@@ -371,7 +423,24 @@ fn put_in_own<T: Drop>(
     ensures used { EachIsUsed (arc_value pages.new) }
 {
     if let Some(pages) = Arc::get_mut(pages) {
-        return put_in_own_pages(pages, id, value);
+        return put_in_own_pages(pages, id, value, alloc);
+    }
+    Err(NoMemory)
+}
+
+/// Takes out a value where neither the table nor the page has another owner.
+fn take_from_own<T: Drop>(
+    pages: &mut Arc<HashMap<u32, Arc<Page<T>>>>,
+    id: u32,
+) -> Result<(), NoMemory>
+    requires there { IsSome (value_at (arc_value pages.old) id) }
+    requires used { EachIsUsed (arc_value pages.old) }
+    ensures ok { OnOk result (Puts (arc_value pages.old) (arc_value pages.new) id None) }
+    ensures err { OnErr result (IsSame (arc_value pages.old) (arc_value pages.new)) }
+    ensures used { EachIsUsed (arc_value pages.new) }
+{
+    if let Some(pages) = Arc::get_mut(pages) {
+        return take_from_own_pages(pages, id);
     }
     Err(NoMemory)
 }

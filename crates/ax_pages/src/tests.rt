@@ -81,7 +81,9 @@ fn erased<L: Ledger>(alloc: Global, blank: Blank) -> Result<(usize, usize), Fail
     let mut values: Paged<u32> = Paged::new(alloc);
     values.write(id(1)?, 10, &mut steps)?;
     values.write(id(65)?, 11, &mut steps)?;
-    values.rewrite(id(65)?, 12)?;
+    values.write_own(id(65)?, 13)?;
+    values.erase_own(id(65)?)?;
+    values.write_own(id(65)?, 12)?;
     let share = values.share()?;
     values.erase(id(65)?, &mut steps)?;
     values.erase(id(65)?, &mut steps)?;

@@ -1,5 +1,5 @@
 use Rattle.ax_pages.proofs.TableLemmas.{seen_at, put_held, kept_held, on_ok, on_err}
-use Rattle.ax_pages.proofs.table.Table.rewrite.Goals as goal
+use Rattle.ax_pages.proofs.table.Table.write_own.Goals as goal
 
 pub returns-in-Some-clause-ok : goal.returns-in-Some-clause-ok
 returns-in-Some-clause-ok g c =

@@ -1,6 +1,0 @@
-use Rattle.ax_pages.proofs.MapLemmas.{len_put}
-use Rattle.ax_pages.proofs.paged.Paged.rewrite.Goals as goal
-
-pub invariant_of-self-2 : goal.invariant_of-self-2
-invariant_of-self-2 g c =
-    len_put c.self.inside.table c.rewrite.new.self c.args.self.now c.args.id c.in_ok-len.len c.args.value c.self.view_is c.in_ok-len.ensures c.in_ok-rewrite.ensures.ok
