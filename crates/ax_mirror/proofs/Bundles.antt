@@ -1,5 +1,5 @@
 -- What a run over updates has come to, and what it makes of a mirror.
-use Rattle.std.proofs.Common.{◌≡◌, ◌≤◌, ◌⊎◌, ⊎_elim, inl, inr, ℕ, zero, suc, ◌+◌, ◌<◌, true, false, List, [], ◌∷◌, length, drop, get_or, Option, Some, None, Result, Ok, Err, refl, sym, ap, subst, ◌∙◌, arith}
+use Rattle.std.proofs.Common.{◌≡◌, ◌≤◌, ◌⊎◌, ⊎_elim, inl, inr, ℕ, zero, suc, ◌+◌, ◌<◌, ◌||◌, true, false, List, [], ◌∷◌, length, drop, get_or, Option, Some, None, Result, Ok, Err, refl, sym, ap, subst, ◌∙◌, arith}
 use Rattle.std.specs.Prelude.{option_map}
 use Rattle.std.specs.FinMap as fin
 use Rattle.std.specs.Ordering.{nat_cmp}
@@ -26,10 +26,12 @@ use Rattle.ax_mirror.specs.Placed.{Nodes}
 use Rattle.ax_mirror.specs.Kept.{Keeps, Holds, shown}
 use Rattle.ax_mirror.specs.Steps.{Updates, UpdateRefused, updated, GivesTrees, Tracked}
 use Rattle.ax_mirror.specs.Begins.{TrackedTrees, Forgets}
+use Rattle.ax_mirror.specs.Accounts.{is_listed, is_named, MayBeTouched, NamesOnly, TouchesOnly}
 use Rattle.ax_mirror.specs.Mirrors.{NamesChanges, GivesTree, Applies, IsRefused, IsBroken, TrackedHeld, with_about}
 use Rattle.ax_mirror.proofs.Lists.{drop_whole}
 use Rattle.ax_mirror.proofs.Tracks.{track_start, track_then}
-use Rattle.ax_mirror.proofs.Shows.{shown_is, holds_shown, holds_none, same_data}
+use Rattle.ax_mirror.proofs.Shows.{shown_is, holds_shown, holds_none, same_data, there_same}
+use Rattle.ax_mirror.proofs.Accounts.{only_next, come_next, or_left, or_right}
 
 -- ---- one update
 
@@ -52,17 +54,19 @@ held_tracked d e t = λ f k. t (draft_of f) k.keeps
 
 -- ---- the run
 
-pub record Reached (e : Draft) (b : TreeData) (us : List TreeUpdate) (i : ℕ) (t : Tree) : Type 0 where
+pub record Reached (d : Draft) (f : Trees Look) (e : Draft) (b : TreeData) (us : List TreeUpdate) (i : ℕ) (t : Tree) : Type 0 where
   pub now : Trees Look
   pub holds : Holds e.nodes e.root now
   pub rest : applied_from 0 us t ≡ applied_from i (drop i us) (with_about b now)
+  pub only : (z : ℕ) → contains e.touched z ≡ true → (contains d.touched z ≡ true) ⊎ MayBeTouched us f now z
+  pub come : (z : ℕ) → has now z ≡ true → (has f z ≡ true) ⊎ (is_listed us z ≡ true)
 
 pub record CameTo (d : Draft) (a : TreeData) (e : Draft) (b : TreeData) (us : List TreeUpdate) (i : ℕ) : Type 0 where
-  pub came : (f : Trees Look) → Holds d.nodes d.root f → Reached e b us i (with_about a f)
+  pub came : (f : Trees Look) → Holds d.nodes d.root f → Reached d f e b us i (with_about a f)
   pub tracked : TrackedHeld d e
 
 pub all_begin : (d : Draft) (a : TreeData) (us : List TreeUpdate) → CameTo d a d a us 0
-all_begin d a us = record { came = λ f h. record { now = f; holds = h; rest = refl }; tracked = λ f h. track_start d }
+all_begin d a us = record { came = λ f h. record { now = f; holds = h; rest = refl; only = λ z t. inl t; come = λ z t. inl t }; tracked = λ f h. track_start d }
 
 drop_at : (us : List TreeUpdate) (i : ℕ) (u : TreeUpdate) → i < length us → u ≡ get_or us i u → drop i us ≡ u ∷ drop (i + 1) us
 drop_at us i u l e = drop_more us i u l ∙ ap (λ v. v ∷ drop (i + 1) us) (sym e)
@@ -77,23 +81,25 @@ from_err : (i : ℕ) (u : TreeUpdate) (us : List TreeUpdate) (t : Tree) (r : Ref
 from_err i u us t r h = rw h refl
 
 pub all_next : (d : Draft) (a : TreeData) (e : Draft) (b : TreeData) (g : Draft) (c : TreeData) (us : List TreeUpdate) (i : ℕ) (u : TreeUpdate) → CameTo d a e b us i → i < length us → u ≡ get_or us i u
-    → Applies (λ t. applied u t) e b g c → TrackedHeld e g → CameTo d a g c us (i + 1)
-all_next d a e b g c us i u k l q h t = record {
+    → Applies (λ t. applied u t) e b g c → TrackedHeld e g → TouchesOnly (u ∷ []) e g → CameTo d a g c us (i + 1)
+all_next d a e b g c us i u k l q h t o = record {
   came = λ f p.
-      let r : Reached e b us i (with_about a f) = k.came f p in
+      let r : Reached d f e b us i (with_about a f) = k.came f p in
       let n : GivesTree g c (applied u (with_about b r.now)) = h r.now r.holds in
       record {
         now = n.next;
         holds = n.holds;
         rest = r.rest ∙ ap (λ vs. applied_from i vs (with_about b r.now)) (drop_at us i u l q) ∙ from_ok i u (drop (i + 1) us) (with_about b r.now) (with_about c n.next) n.is;
+        only = only_next us i u d e g f r.now n.next l q o r.holds n.holds r.only r.come;
+        come = come_next us i u e g f r.now n.next l q o r.holds n.holds r.come;
       };
-  tracked = λ f p. let r : Reached e b us i (with_about a f) = k.came f p in track_then d e g (k.tracked f p) (t r.now r.holds);
+  tracked = λ f p. let r : Reached d f e b us i (with_about a f) = k.came f p in track_then d e g (k.tracked f p) (t r.now r.holds);
 }
 
 pub all_stop : (d : Draft) (a : TreeData) (e : Draft) (b : TreeData) (us : List TreeUpdate) (i : ℕ) (u : TreeUpdate) (r : Refusal) → CameTo d a e b us i → i < length us → u ≡ get_or us i u
     → IsRefused (λ t. applied u t) e b r → IsBroken (λ t. applied_all us t) d a (record { at = i; why = r })
 all_stop d a e b us i u r k l q h = λ f p.
-    let n : Reached e b us i (with_about a f) = k.came f p in
+    let n : Reached d f e b us i (with_about a f) = k.came f p in
     ⊎_elim
     (λ x. inl x)
     (λ x. inr (n.rest ∙ ap (λ vs. applied_from i vs (with_about b n.now)) (drop_at us i u l q) ∙ from_err i u (drop (i + 1) us) (with_about b n.now) r x))
@@ -101,8 +107,18 @@ all_stop d a e b us i u r k l q h = λ f p.
 
 pub all_end : (d : Draft) (a : TreeData) (e : Draft) (b : TreeData) (us : List TreeUpdate) (i : ℕ) → CameTo d a e b us i → length us ≤ i → Applies (λ t. applied_all us t) d a e b
 all_end d a e b us i k h = λ f p.
-    let n : Reached e b us i (with_about a f) = k.came f p in
+    let n : Reached d f e b us i (with_about a f) = k.came f p in
     record { next = n.now; is = n.rest ∙ ap (λ vs. applied_from i vs (with_about b n.now)) (drop_whole us i h); holds = n.holds }
+
+pub all_only : (d : Draft) (a : TreeData) (e : Draft) (b : TreeData) (us : List TreeUpdate) (i : ℕ) → CameTo d a e b us i → TouchesOnly us d e
+all_only d a e b us i k = record {
+  only = λ f g h p z c.
+      let n : Reached d f e b us i (with_about a f) = k.came f h in
+      subst (λ v. (contains d.touched z ≡ true) ⊎ MayBeTouched us f v z) (sym (shown_is e.nodes e.root n.now n.holds) ∙ shown_is e.nodes e.root g p) (n.only z c);
+  come = λ f g h p z c.
+      let n : Reached d f e b us i (with_about a f) = k.came f h in
+      n.come z (ap (λ v. has v z) (sym (shown_is e.nodes e.root n.now n.holds) ∙ shown_is e.nodes e.root g p) ∙ c);
+}
 
 -- ---- what it makes of a mirror
 
@@ -122,6 +138,12 @@ module _ (m : Nodes) (root : Option ℕ) (a : TreeData) (k : Holds m root (shown
 
     pub mirror_names : TrackedHeld d e → NamesChanges (with_about a (shown m root)) (with_about b (shown e.nodes e.root)) e.touched
     mirror_names t = λ z c. same_data m e.nodes root e.root (shown m root) (shown e.nodes e.root) z k mirror_holds ((t (shown m root) (held_as p q)).same z c ∙ ap (λ (n : Nodes). fin.get n z) p)
+
+    pub mirror_only : (us : List TreeUpdate) → TouchesOnly us d e → d.touched ≡ [] → NamesOnly us (with_about a (shown m root)) (with_about b (shown e.nodes e.root)) e.touched
+    mirror_only us t none = λ z c. ⊎_elim
+        (λ (x : contains d.touched z ≡ true). absurd (false≢true (sym (ap (λ js. contains js z) none) ∙ x)))
+        (λ x. x)
+        (t.only (shown m root) (shown e.nodes e.root) (held_as p q) mirror_holds z c)
 
   pub mirror_refused : (rule : Tree → Result Tree Refusal) (r : Refusal) → d.nodes ≡ m → d.root ≡ root → IsRefused rule d a r → (r ≡ NoMemory) ⊎ (rule (with_about a (shown m root)) ≡ Err r)
   mirror_refused rule r p q h = h (shown m root) (held_as p q)
@@ -157,3 +179,17 @@ module _ (m : Nodes) (root : Option ℕ) (old : TreeData) (k : Holds m root (sho
       where
         nothing_new : (z : ℕ) → fin.get e.nodes z ≡ None → option_map data_of (node_at (shown e.nodes e.root) z) ≡ None
         nothing_new z n = same_data d.nodes e.nodes d.root e.root bare (shown e.nodes e.root) z none_held anew_holds (n ∙ sym (ap (λ (n : Nodes). fin.get n z) fg.nodes ∙ fin.get-empty nat_cmp z))
+
+    pub anew_only : (us : List TreeUpdate) → TouchesOnly us d e → NamesOnly us (with_about old (shown m root)) (with_about b (shown e.nodes e.root)) e.touched
+    anew_only us t = λ z c. ⊎_elim
+        (λ (x : contains d.touched z ≡ true). were z (sym (there_same m root (shown m root) k z) ∙ fg.only z x))
+        (λ (x : MayBeTouched us bare (shown e.nodes e.root) z). ⊎_elim
+        (λ l. inl l)
+        (λ (g : (has (shown e.nodes e.root) z ≡ false) × (is_named us z ≡ true)). inr (g.0, or_right (has (shown m root) z) (is_named us z) g.1))
+        x)
+        (t.only bare (shown e.nodes e.root) none_held anew_holds z c)
+      where
+        were : (z : ℕ) → has (shown m root) z ≡ true → MayBeTouched us (shown m root) (shown e.nodes e.root) z
+        were z h = by_go (has (shown e.nodes e.root) z)
+            (λ n. ⊎_elim (λ (x : false ≡ true). absurd (false≢true x)) (λ l. inl l) (t.come bare (shown e.nodes e.root) none_held anew_holds z n))
+            (λ n. inr (n, or_left (has (shown m root) z) (is_named us z) h))

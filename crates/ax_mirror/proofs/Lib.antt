@@ -11,3 +11,4 @@ pub mod Finishes
 pub mod Updates
 pub mod Shows
 pub mod Bundles
+pub mod Accounts

@@ -124,7 +124,7 @@ sized (x ∷ xs) m o h =
         let same : is_some (fin.get (fin.remove m x) z) ≡ is_some (fin.get m z) = ap is_some (get_remove m x z ∙ ap (λ b. cond b None (fin.get m z)) q) in
         (rw q at g) ∙ sym same
 
-there_same : (m : Nodes) (root : Option ℕ) (f : Trees Look) → Holds m root f → (z : ℕ) → is_some (fin.get m z) ≡ has f z
+pub there_same : (m : Nodes) (root : Option ℕ) (f : Trees Look) → Holds m root f → (z : ℕ) → is_some (fin.get m z) ≡ has f z
 there_same m root f h z = sym (is_some-map told_node (fin.get m z)) ∙ ap is_some (h.keeps.stands.at z) ∙ sym (has-node (draft_of f) z) ∙ has-draft f z
 
 pub count_is : (m : Nodes) (root : Option ℕ) (f : Trees Look) → Holds m root f → fin.len m ≡ count f

@@ -55,7 +55,7 @@ settle None (Some e) u s = absurd u
 settle (Some d) (Some e) u s = (u.1 s.0, subst (λ l. l ≤ 256) (sym u.0) s.1)
 
 -- what holds trees is settled
-all_settled : (m : Nodes) (root : Option ℕ) (f : Trees Look) → Holds m root f → (z : ℕ) (o : Option Entry) → fin.get m z ≡ o → IsSettled o
+pub all_settled : (m : Nodes) (root : Option ℕ) (f : Trees Look) → Holds m root f → (z : ℕ) (o : Option Entry) → fin.get m z ≡ o → IsSettled o
 all_settled m root f h z None g = tt
 all_settled m root f h z (Some x) g =
     let w : Trees (Option Look) = draft_of f in

@@ -1,5 +1,5 @@
 -- How an update begins: what its root and its clear id take out.
-use Rattle.std.specs.Prelude.{ℕ, ◌≡◌, ◌≤◌, Bool, true, false, ◌==◌, if◌then◌else◌, is_some, length, Option, Some, None}
+use Rattle.std.specs.Prelude.{ℕ, ◌≡◌, ◌≤◌, Bool, true, false, ◌==◌, ◌||◌, if◌then◌else◌, is_some, length, Option, Some, None}
 use Rattle.std.specs.FinMap as fin
 use Rattle.ax_node.specs.Look.{Look}
 use Rattle.ax_trees.specs.Trees.{Trees, has}
@@ -34,6 +34,7 @@ pub record TouchesAll (d e : Draft) : Type 0 where
   pub made : e.made ≡ d.made
   pub grows : (z : ℕ) → contains d.touched z ≡ true → contains e.touched z ≡ true
   pub longer : length d.touched ≤ length e.touched
+  pub only : (z : ℕ) → contains e.touched z ≡ true → (contains d.touched z || is_some (fin.get d.nodes z)) ≡ true
   pub all : (w : Trees (Option Look)) → Keeps d.nodes d.root w → (z : ℕ) → has w z ≡ true → contains e.touched z ≡ true
 
 -- the id to clear, where it isn't in the map
@@ -45,4 +46,5 @@ missing_in m (Some z) = if is_some (fin.get m z) then None else Some z
 pub record Forgets (m : Nodes) (root : Option ℕ) (d : Draft) : Type 0 where
   pub nodes : d.nodes ≡ fin.empty
   pub none : d.root ≡ None
+  pub only : (z : ℕ) → contains d.touched z ≡ true → is_some (fin.get m z) ≡ true
   pub all : (w : Trees (Option Look)) → Keeps m root w → (z : ℕ) → has w z ≡ true → contains d.touched z ≡ true

@@ -6,3 +6,4 @@ pub mod Changes
 pub mod Begins
 pub mod Finishes
 pub mod Mirrors
+pub mod Accounts

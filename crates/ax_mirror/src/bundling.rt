@@ -1,8 +1,9 @@
-ghost use Rattle.std.specs.Prelude.{◌≡◌, ◌≤◌, ◌+◌, [], length, OnOk, IfOk, IfErr, None};
+ghost use Rattle.std.specs.Prelude.{◌≡◌, ◌≤◌, ◌+◌, [], ◌∷◌, length, OnOk, IfOk, IfErr, None};
 ghost use Rattle.std.specs.FinMap as map;
 ghost use Rattle.ax_tree.specs.Updates.{applied, applied_all};
 ghost use Rattle.ax_mirror.specs.Begins.{Forgets};
 ghost use Rattle.ax_mirror.specs.Mirrors.{Applies, IsRefused, IsBroken, TrackedHeld};
+ghost use Rattle.ax_mirror.specs.Accounts.{TouchesOnly};
 
 use crate::draft::Draft;
 use crate::entries::Entries;
@@ -55,6 +56,7 @@ pub fn take_one<L: Ledger>(
     ensures err { IfErr result (λ r. IsRefused (λ t. applied update.now t) draft.old about.old r) }
     ensures tracked { OnOk result (TrackedHeld draft.old draft.new) }
     ensures cost { OnOk result (steps.new + length draft.old.touched ≤ steps.old + length draft.new.touched) }
+    ensures only { OnOk result (TouchesOnly (update.now ∷ []) draft.old draft.new) }
 {
     match take_update(draft, update, alloc, steps) {
         Ok(()) => {}
@@ -78,6 +80,7 @@ pub fn take_all<L: Ledger>(
     ensures err { IfErr result (λ r. IsBroken (λ t. applied_all updates.now t) draft.old about.old r) }
     ensures tracked { OnOk result (TrackedHeld draft.old draft.new) }
     ensures cost { OnOk result (steps.new + length draft.old.touched ≤ steps.old + length draft.new.touched) }
+    ensures only { OnOk result (TouchesOnly updates.now draft.old draft.new) }
 {
     for (at, update) in updates.iter().enumerate() {
         match take_one(draft, about, update, alloc, steps) {

@@ -11,6 +11,8 @@ mod placing;
 mod removing;
 mod starting;
 mod stepping;
+#[cfg(test)]
+mod tests;
 mod touching;
 mod updating;
 

@@ -1,7 +1,8 @@
-ghost use Rattle.std.specs.Prelude.{◌≡◌, ◌≤◌, ◌<◌, ◌+◌, length, OnOk, OnErr, IfOk, IfErr, Ok};
+ghost use Rattle.std.specs.Prelude.{[], ◌∷◌, ◌≡◌, ◌≤◌, ◌<◌, ◌+◌, length, OnOk, OnErr, IfOk, IfErr, Ok};
 ghost use Rattle.ax_tree.specs.Tree.{empty};
 ghost use Rattle.ax_tree.specs.Updates.{applied, applied_all};
 ghost use Rattle.ax_mirror.specs.Mirrors.{NamesChanges, RefusedAs, BrokenAs, IsForMemory, base_of};
+ghost use Rattle.ax_mirror.specs.Accounts.{NamesOnly};
 
 use crate::bundling::{begin, begin_anew, take_all, take_one};
 use crate::entries::Entries;
@@ -71,6 +72,7 @@ impl Mirror {
         ensures err { IfErr result (λ r. RefusedAs r (applied update.now self.old)) }
         ensures unchanged { OnErr result (self.new ≡ self.old) }
         ensures named { IfOk result (λ t. NamesChanges self.old self.new t) }
+        ensures only { IfOk result (λ t. NamesOnly (update.now ∷ []) self.old self.new t) }
     {
         match self.unserialize_counted::<Brand>(update, Blank::new(1)) {
             Ok(touched) => Ok(touched),
@@ -88,6 +90,7 @@ impl Mirror {
         ensures err { IfErr result (λ r. RefusedAs r (applied update.now self.old)) }
         ensures unchanged { OnErr result (self.new ≡ self.old) }
         ensures named { IfOk result (λ t. NamesChanges self.old self.new t) }
+        ensures only { IfOk result (λ t. NamesOnly (update.now ∷ []) self.old self.new t) }
     {
         let mut steps: Steps<L> = Steps::start(blank);
         let Ok(mut draft) = begin(&self.nodes, self.root, self.alloc) else {
@@ -120,6 +123,7 @@ impl Mirror {
         ensures unchanged { OnErr result (self.new ≡ self.old) }
         ensures named { IfOk result (λ t. NamesChanges self.old self.new t) }
         ensures cost { IfOk result (λ t. steps.new ≤ steps.old + length t) }
+        ensures only { IfOk result (λ t. NamesOnly bundle.now self.old self.new t) }
     {
         if fresh {
             return self.apply_anew(bundle, steps);
@@ -137,6 +141,7 @@ impl Mirror {
         ensures unchanged { OnErr result (self.new ≡ self.old) }
         ensures named { IfOk result (λ t. NamesChanges self.old self.new t) }
         ensures cost { IfOk result (λ t. steps.new ≤ steps.old + length t) }
+        ensures only { IfOk result (λ t. NamesOnly bundle.now self.old self.new t) }
     {
         let Ok(mut draft) = begin(&self.nodes, self.root, self.alloc) else {
             return Err(no_memory());
@@ -164,6 +169,7 @@ impl Mirror {
         ensures unchanged { OnErr result (self.new ≡ self.old) }
         ensures named { IfOk result (λ t. NamesChanges self.old self.new t) }
         ensures cost { IfOk result (λ t. steps.new ≤ steps.old + length t) }
+        ensures only { IfOk result (λ t. NamesOnly bundle.now self.old self.new t) }
     {
         let Ok(mut draft) = begin_anew(&self.nodes, self.root, self.alloc) else {
             return Err(no_memory());

@@ -1,5 +1,6 @@
 ghost use Rattle.std.specs.Prelude.{◌≤◌, ◌+◌, length, OnOk};
 ghost use Rattle.ax_mirror.specs.Steps.{TakesOut, Tracked};
+ghost use Rattle.ax_mirror.specs.Accounts.{Accounts, no_id};
 
 use crate::draft::Draft;
 use crate::entries::take;
@@ -16,6 +17,7 @@ pub fn take_out<L: Ledger>(
     ensures out { OnOk result (TakesOut draft.old draft.new stack.old) }
     ensures tracked { OnOk result (Tracked draft.old draft.new) }
     ensures cost { OnOk result (steps.new + length draft.old.touched ≤ steps.old + length draft.new.touched) }
+    ensures accounts { OnOk result (Accounts no_id no_id draft.old draft.new) }
 {
     while let Some(id) = stack.pop() {
         let Some(entry) = draft.nodes.read(id) else {

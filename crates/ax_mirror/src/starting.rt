@@ -3,6 +3,7 @@ ghost use Rattle.ax_trees.specs.Trees.{bare, tree};
 ghost use Rattle.ax_tree.specs.UpdateRule.{cleared, started};
 ghost use Rattle.ax_mirror.specs.Steps.{Makes, Tracked};
 ghost use Rattle.ax_mirror.specs.Begins.{Turns, TrackedTrees, TouchesAll, root_is, anew_of};
+ghost use Rattle.ax_mirror.specs.Accounts.{Accounts, no_id, is_id, start_names};
 
 use crate::draft::Draft;
 use crate::entries::Entries;
@@ -24,6 +25,7 @@ pub fn clear_below<L: Ledger>(
     ensures made { OnOk result (Makes draft.old draft.new) }
     ensures tracked { OnOk result (Tracked draft.old draft.new) }
     ensures cost { OnOk result (steps.new + length draft.old.touched ≤ steps.old + length draft.new.touched) }
+    ensures accounts { OnOk result (Accounts (is_id id) no_id draft.old draft.new) }
 {
     let Some(entry) = draft.nodes.read(id) else {
         return Ok(());
@@ -70,6 +72,7 @@ pub fn root_anew<L: Ledger>(
     ensures made { OnOk result (Makes draft.old draft.new) }
     ensures tracked { OnOk result (TrackedTrees draft.old draft.new) }
     ensures cost { OnOk result (steps.new + length draft.old.touched ≤ steps.old + length draft.new.touched) }
+    ensures accounts { OnOk result (Accounts (is_id root) no_id draft.old draft.new) }
 {
     touch_all(draft, alloc)?;
     draft.nodes = Entries::new(alloc);
@@ -90,6 +93,7 @@ pub fn start<L: Ledger>(
     ensures made { OnOk result (Makes draft.old draft.new) }
     ensures tracked { OnOk result (TrackedTrees draft.old draft.new) }
     ensures cost { OnOk result (steps.new + length draft.old.touched ≤ steps.old + length draft.new.touched) }
+    ensures accounts { OnOk result (Accounts (start_names root clear) no_id draft.old draft.new) }
 {
     match anew(draft.root, root) {
         Some(root) => {

@@ -2,6 +2,7 @@ ghost use Rattle.std.specs.Prelude.{◌≡◌, ◌≤◌, ◌+◌, ◌⊎◌, le
 ghost use Rattle.ax_tree.specs.declared.update.Refusal.TheVariants.{NoMemory};
 ghost use Rattle.ax_mirror.specs.Steps.{taken, all_taken, Accepts, Refuses, Makes, Tracked};
 ghost use Rattle.ax_mirror.specs.Changes.{IsChange, RepeatsChild};
+ghost use Rattle.ax_mirror.specs.Accounts.{Accounts, is_id, node_names, list_names, lists_id};
 
 use crate::children::{first_repeated, outside, set_of};
 use crate::draft::Draft;
@@ -76,6 +77,7 @@ pub fn take_node<L: Ledger>(
     ensures made { OnOk result (Makes draft.old draft.new) }
     ensures tracked { OnOk result (Tracked draft.old draft.new) }
     ensures cost { OnOk result (steps.new + length draft.old.touched ≤ steps.old + length draft.new.touched) }
+    ensures accounts { OnOk result (Accounts (node_names node.now) (is_id node.now.id) draft.old draft.new) }
 {
     let Some(entry) = draft.nodes.read(node.id) else {
         return Err(Refusal::NotInTree(node.id));
@@ -128,6 +130,7 @@ pub fn take_nodes<L: Ledger>(
     ensures made { OnOk result (Makes draft.old draft.new) }
     ensures tracked { OnOk result (Tracked draft.old draft.new) }
     ensures cost { OnOk result (steps.new + length draft.old.touched ≤ steps.old + length draft.new.touched) }
+    ensures accounts { OnOk result (Accounts (list_names nodes.now) (lists_id nodes.now) draft.old draft.new) }
 {
     for node in nodes {
         match take_node(draft, node, alloc, steps) {

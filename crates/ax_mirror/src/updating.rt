@@ -2,6 +2,7 @@ ghost use Rattle.std.specs.Prelude.{◌≡◌, ◌≤◌, ◌+◌, length, OnOk,
 ghost use Rattle.ax_tree.specs.Updates.{told};
 ghost use Rattle.ax_mirror.specs.Steps.{Updates, UpdateRefused};
 ghost use Rattle.ax_mirror.specs.Begins.{TrackedTrees, missing_in};
+ghost use Rattle.ax_mirror.specs.Accounts.{Accounts, names, lists_id};
 
 use crate::draft::Draft;
 use crate::entries::Entries;
@@ -26,6 +27,7 @@ pub fn take_update<L: Ledger>(
     ensures err { IfErr result (λ r. UpdateRefused draft.old update.now r) }
     ensures tracked { OnOk result (TrackedTrees draft.old draft.new) }
     ensures cost { OnOk result (steps.new + length draft.old.touched ≤ steps.old + length draft.new.touched) }
+    ensures accounts { OnOk result (Accounts (names update.now) (lists_id update.now.nodes) draft.old draft.new) }
 {
     draft.made.clear();
     match missing(&draft.nodes, update.clear) {

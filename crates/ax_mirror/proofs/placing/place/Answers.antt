@@ -7,15 +7,19 @@ use Rattle.ax_mirror.specs.Steps.{is_elsewhere, Places}
 use Rattle.ax_mirror.proofs.Looks.{is_some-copied}
 use Rattle.ax_mirror.proofs.Placings.{placed_start, placed_old, placed_bad, placed_new, placed_end, placed_none}
 use Rattle.ax_mirror.proofs.Tracks.{track_start, track_then, costs_then}
+use Rattle.ax_trees.specs.Lists.{contains}
+use Rattle.ax_mirror.specs.Accounts.{Accounts, no_id, is_id}
+use Rattle.ax_mirror.proofs.Accounts.{acc_start, acc_then, acc_weaken, is_in, one_in}
 use Rattle.ax_mirror.proofs.placing.place.Goals as goal
 
 pub loop-id-init : goal.loop-id-init
-loop-id-init g c = record { placed = placed_start _ _ _ _ _; tracked = track_start _; cost = omega arith }
+loop-id-init g c = record { placed = placed_start _ _ _ _ _; tracked = track_start _; accounts = acc_start _ no_id _; cost = omega arith }
 
 pub loop-id-preserved-then-contains : goal.loop-id-preserved-then-contains
 loop-id-preserved-then-contains g c = record {
   placed = placed_old _ _ _ _ _ _ c.loop-id.id-index c.id-item.result c.loop-id.invariant.placed (record { low = c.loop-id-test.true; item = c.id-item.is }) (sym c.contains.ensures ∙ c.if-contains.true);
   tracked = c.loop-id.invariant.tracked;
+  accounts = c.loop-id.invariant.accounts;
   cost = c.loop-id.invariant.cost;
 }
 
@@ -39,6 +43,8 @@ loop-id-preserved g c = record {
       (ap is_some (sym c.read.ensures) ∙ is_some-copied c.read.result ∙ sym c.is_some.ensures ∙ c.if-is_some.false)
       c.in_ok-put_pending.ensures.puts;
   tracked = track_then _ c.loop-id.draft _ c.loop-id.invariant.tracked c.in_ok-put_pending.ensures.tracked;
+  accounts = acc_then _ no_id _ c.loop-id.draft _ c.loop-id.invariant.accounts
+      (acc_weaken (is_id c.id-item.result) no_id _ no_id c.loop-id.draft _ (λ z h. one_in _ c.id-item.result z (is_in _ c.loop-id.id-index c.id-item.result (record { low = c.loop-id-test.true; item = c.id-item.is })) h) (λ z h. h) c.in_ok-put_pending.ensures.accounts);
   cost = costs_then _ _ _ _ _ _ c.loop-id.invariant.cost c.in_ok-put_pending.ensures.cost;
 }
 
@@ -56,3 +62,9 @@ returns-clause-tracked g c = c.loop-id.invariant.tracked
 
 pub returns-clause-cost : goal.returns-clause-cost
 returns-clause-cost g c = c.loop-id.invariant.cost
+
+pub returns-then-is_some-clause-accounts : goal.returns-then-is_some-clause-accounts
+returns-then-is_some-clause-accounts g c = subst (λ (js : List ℕ). Accounts (contains js) no_id c.args.draft.now c.loop-id.draft) c.as_slice-id-items.ensures c.loop-id.invariant.accounts
+
+pub returns-clause-accounts : goal.returns-clause-accounts
+returns-clause-accounts g c = subst (λ (js : List ℕ). Accounts (contains js) no_id c.args.draft.now c.loop-id.draft) c.as_slice-id-items.ensures c.loop-id.invariant.accounts

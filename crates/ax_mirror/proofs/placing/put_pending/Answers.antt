@@ -9,6 +9,9 @@ use Rattle.ax_mirror.proofs.Looks.{get_insert, at_other}
 use Rattle.ax_mirror.proofs.Lists.{contains_push}
 use Rattle.ax_mirror.proofs.Placings.{pushed_here, pushed_more}
 use Rattle.ax_mirror.proofs.Tracks.{track_touch}
+use Rattle.std.proofs.Common.{inl}
+use Rattle.ax_mirror.specs.Accounts.{no_id, is_id}
+use Rattle.ax_mirror.proofs.Accounts.{acc_put, self_is}
 use Rattle.ax_mirror.proofs.placing.put_pending.Goals as goal
 
 abbrev pending_at : Option ℕ → ℕ → NodeData → Entry
@@ -25,3 +28,7 @@ returns-clause-puts g c = record {
 pub returns-clause-tracked : goal.returns-clause-tracked
 returns-clause-tracked g c =
     track_touch c.args.draft.now _ c.args.id (λ z h. at_other _ _ _ _ h (ap (λ (m : Nodes). map.get m z) c.in_ok-put.ensures.ok ∙ get_insert c.args.draft.now.nodes c.args.id _ z)) c.in_ok-put.ensures.touched
+
+pub returns-clause-accounts : goal.returns-clause-accounts
+returns-clause-accounts g c =
+    acc_put (is_id c.args.id) no_id c.args.draft.now _ c.args.id _ (λ z. ap (λ (m : Nodes). map.get m z) c.in_ok-put.ensures.ok ∙ get_insert c.args.draft.now.nodes c.args.id _ z) c.in_ok-put.ensures.touched (self_is c.args.id) (inl refl)

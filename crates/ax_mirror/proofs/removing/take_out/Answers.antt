@@ -4,6 +4,8 @@ use Rattle.ax_mirror.specs.Placed.{Nodes}
 use Rattle.ax_mirror.proofs.Looks.{get_remove, len_falls, at_other}
 use Rattle.ax_mirror.proofs.Walks.{left_begins, left_next, left_ends, less_next}
 use Rattle.ax_mirror.proofs.Tracks.{track_start, track_then, track_touch, costs_then}
+use Rattle.ax_mirror.specs.Accounts.{no_id}
+use Rattle.ax_mirror.proofs.Accounts.{acc_start, acc_then, acc_take}
 use Rattle.ax_mirror.proofs.removing.take_out.Goals as goal
 
 pub loop-id-smaller : goal.loop-id-smaller
@@ -11,7 +13,7 @@ loop-id-smaller g c =
     subst (λ (m : Nodes). map.len m < map.len c.loop-id.draft.nodes) (sym c.in_ok-take.ensures.ok) (len_falls c.loop-id.draft.nodes c.in-Some.id c.in-Some-read.entry.now c.in-Some-read.ensures)
 
 pub loop-id-init : goal.loop-id-init
-loop-id-init g c = record { root = refl; made = refl; less = λ z. inr refl; left = λ k t h. left_begins k _ _ t h; tracked = track_start _; cost = omega arith }
+loop-id-init g c = record { root = refl; made = refl; less = λ z. inr refl; left = λ k t h. left_begins k _ _ t h; tracked = track_start _; accounts = acc_start no_id no_id _; cost = omega arith }
 
 pub loop-id-preserved : goal.loop-id-preserved
 loop-id-preserved g c =
@@ -24,6 +26,7 @@ loop-id-preserved g c =
       left = λ k t h.
           left_next k _ _ _ _ _ _ c.in-Some.id c.in-Some-read.entry.now (c.loop-id.invariant.left k t h) c.in-Some.ensures c.in-Some-read.ensures gone c.in_ok-push_reversed.ensures.ok;
       tracked = track_then _ c.loop-id.draft _ c.loop-id.invariant.tracked (track_touch c.loop-id.draft _ c.in-Some.id (λ z h. at_other _ _ _ _ h (gone z)) c.in_ok-take.ensures.touched);
+      accounts = acc_then no_id no_id _ c.loop-id.draft _ c.loop-id.invariant.accounts (acc_take c.loop-id.draft _ c.in-Some.id c.in-Some-read.entry.now c.in-Some-read.ensures gone c.in_ok-take.ensures.touched);
       cost = costs_then _ _ _ _ _ _ c.loop-id.invariant.cost c.in_ok-take.ensures.cost;
     }
 
@@ -34,3 +37,6 @@ returns-clause-out g c = record {
   less = c.loop-id.invariant.less;
   out = λ k t h. left_ends k _ _ _ (c.loop-id.invariant.left k t h) c.in_default.ensures.0;
 }
+
+pub returns-clause-accounts : goal.returns-clause-accounts
+returns-clause-accounts g c = c.loop-id.invariant.accounts

@@ -4,6 +4,7 @@ use Rattle.std.specs.FinMap as map
 use Rattle.ax_node.specs.Look.{Look}
 use Rattle.ax_trees.specs.Trees.{Trees, roots}
 use Rattle.ax_mirror.specs.Steps.{Tells, Tracked}
+use Rattle.ax_mirror.specs.Accounts.{Accounts, no_id}
 use Rattle.ax_mirror.proofs.Walks.{Left}
 use Rattle.ax_mirror.proofs.removing.take_out.Given as goal
 
@@ -14,6 +15,7 @@ invariant-loop-id g l = record {
   less : (z : ℕ) → (map.get l.draft.nodes z ≡ None) ⊎ (map.get l.draft.nodes z ≡ map.get l.fn.draft.nodes z);
   left : (k : Trees (Option Look)) → Tells l.fn.draft.nodes k → roots k ≡ reverse l.fn.stack → Left k l.fn.draft.nodes l.draft.nodes l.stack;
   tracked : Tracked l.fn.draft l.draft;
+  accounts : Accounts no_id no_id l.fn.draft l.draft;
   cost : l.steps + length l.fn.draft.touched ≤ l.fn.steps + length l.draft.touched;
 }
 

@@ -11,6 +11,9 @@ use Rattle.ax_mirror.specs.Placed.{Nodes}
 use Rattle.ax_mirror.specs.Kept.{Keeps}
 use Rattle.ax_mirror.proofs.Tracks.{track_then}
 use Rattle.ax_mirror.proofs.Begins.{below_is, tells_below, keeps_cleared, keeps_absent, made_put}
+use Rattle.std.proofs.lemmas.Bool.{false≢true}
+use Rattle.ax_mirror.specs.Accounts.{no_id, is_id}
+use Rattle.ax_mirror.proofs.Accounts.{acc_start, acc_then, acc_weaken}
 use Rattle.ax_mirror.proofs.starting.clear_below.Goals as goal
 
 pub returns-in_default-clause-ok : goal.returns-in_default-clause-ok
@@ -32,3 +35,11 @@ returns-clause-made g c = made_put _ c.take_out.new.draft _ _ c.args.id _ _ c.in
 
 pub returns-clause-tracked : goal.returns-clause-tracked
 returns-clause-tracked g c = track_then _ c.take_out.new.draft _ c.in_ok-take_out.ensures.tracked c.in_ok-put_pending.ensures.tracked
+
+pub returns-in_default-clause-accounts : goal.returns-in_default-clause-accounts
+returns-in_default-clause-accounts g c = acc_start _ _ _
+
+pub returns-clause-accounts : goal.returns-clause-accounts
+returns-clause-accounts g c =
+    acc_then (is_id c.args.id) no_id _ c.take_out.new.draft _
+    (acc_weaken no_id no_id (is_id c.args.id) no_id c.args.draft.now c.take_out.new.draft (λ z h. absurd (false≢true h)) (λ z h. h) c.in_ok-take_out.ensures.accounts) c.in_ok-put_pending.ensures.accounts

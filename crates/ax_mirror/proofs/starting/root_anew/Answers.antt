@@ -5,6 +5,8 @@ use Rattle.ax_trees.specs.Trees.{bare, tree}
 use Rattle.ax_mirror.specs.Placed.{Nodes, pending_entry}
 use Rattle.ax_mirror.specs.Kept.{Keeps}
 use Rattle.ax_mirror.proofs.Begins.{keeps_lone, made_lone, track_lone}
+use Rattle.ax_mirror.specs.Accounts.{no_id, is_id}
+use Rattle.ax_mirror.proofs.Accounts.{acc_then, acc_forget}
 use Rattle.ax_mirror.proofs.starting.root_anew.Goals as goal
 
 pub returns-clause-ok : goal.returns-clause-ok
@@ -18,3 +20,7 @@ returns-clause-made g c = made_lone c.args.draft.now _ _ c.args.root c.new.ensur
 
 pub returns-clause-tracked : goal.returns-clause-tracked
 returns-clause-tracked g c = λ w k. track_lone c.args.draft.now c.touch_all.new.draft _ _ c.args.root w c.in_ok-touch_all.ensures refl c.new.ensures c.in_ok-put_pending.ensures.tracked k
+
+pub returns-clause-accounts : goal.returns-clause-accounts
+returns-clause-accounts g c =
+    acc_then (is_id c.args.root) no_id _ _ _ (acc_forget (is_id c.args.root) no_id c.args.draft.now c.touch_all.new.draft _ c.in_ok-touch_all.ensures refl c.new.ensures) c.in_ok-put_pending.ensures.accounts

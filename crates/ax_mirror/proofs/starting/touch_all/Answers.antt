@@ -5,6 +5,7 @@ use Rattle.std.specs.FinMap as map
 use Rattle.ax_mirror.specs.Placed.{Nodes}
 use Rattle.ax_mirror.specs.Kept.{Keeps}
 use Rattle.ax_mirror.proofs.Begins.{unseen_begins, unseen_next, all_seen, none_there, longer_with, grows_with}
+use Rattle.ax_mirror.proofs.Accounts.{or_left, only_with}
 use Rattle.ax_mirror.proofs.starting.touch_all.Goals as goal
 
 pub returns-in_default : goal.returns-in_default
@@ -14,6 +15,7 @@ returns-in_default c = record {
   made = refl;
   grows = λ z h. h;
   longer = omega arith;
+  only = λ z h. or_left _ _ h;
   all = λ w k z h. absurd (false≢true (sym (none_there w z (k.tops ∙ ap (λ (o : Option ℕ). option_to_list o) c.in_default.is)) ∙ h));
 }
 
@@ -24,6 +26,7 @@ loop-round-init c = record {
   made = refl;
   grows = λ z h. h;
   longer = omega arith;
+  only = λ z h. or_left _ _ h;
   walk = λ w k. unseen_begins w c.args.draft.now.nodes c.in-Some.root _ _ (subst (λ (o : Option ℕ). Keeps c.args.draft.now.nodes o w) c.in-Some.is k) (c.in_ok-push.ensures.ok ∙ ap (λ (js : List ℕ). js ++ c.in-Some.root ∷ []) c.new-stack.ensures);
 }
 
@@ -34,6 +37,7 @@ loop-round-preserved c = record {
   made = c.loop-round.invariant.made;
   grows = λ z h. grows_with _ _ c.in-Some-pop.id z c.in_ok-add.ensures.ok (c.loop-round.invariant.grows z h);
   longer = longer_with _ _ c.in-Some-pop.id _ c.in_ok-add.ensures.ok c.loop-round.invariant.longer;
+  only = only_with c.args.draft.now.nodes c.args.draft.now.touched _ _ c.in-Some-pop.id c.in-Some-read.entry.now c.in_ok-add.ensures.ok (c.in-Some-read.ensures ∙ ap (λ (m : Nodes). map.get m c.in-Some-pop.id) c.loop-round.invariant.nodes) c.loop-round.invariant.only;
   walk = λ w k. unseen_next w c.args.draft.now.nodes _ _ _ _ _ c.in-Some-pop.id c.in-Some-read.entry.now (c.loop-round.invariant.walk w k) c.in-Some-pop.ensures
       (c.in-Some-read.ensures ∙ ap (λ (m : Nodes). map.get m c.in-Some-pop.id) c.loop-round.invariant.nodes) c.in_ok-add.ensures.ok c.in_ok-push_reversed.ensures.ok;
 }
@@ -45,5 +49,6 @@ returns-in_default-pop c = record {
   made = c.loop-round.invariant.made;
   grows = c.loop-round.invariant.grows;
   longer = c.loop-round.invariant.longer;
+  only = c.loop-round.invariant.only;
   all = λ w k z h. all_seen w _ _ _ (c.loop-round.invariant.walk w k) c.in_default-pop.ensures.0 z h;
 }

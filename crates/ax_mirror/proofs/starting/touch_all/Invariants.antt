@@ -1,5 +1,6 @@
-use Rattle.std.proofs.Common.{◌≡◌, ◌≤◌, ℕ, true, length}
-use Rattle.std.specs.Prelude.{Option}
+use Rattle.std.proofs.Common.{◌≡◌, ◌≤◌, ℕ, true, ◌||◌, length}
+use Rattle.std.specs.Prelude.{Option, is_some}
+use Rattle.std.specs.FinMap as map
 use Rattle.ax_node.specs.Look.{Look}
 use Rattle.ax_trees.specs.Trees.{Trees}
 use Rattle.ax_trees.specs.Lists.{contains}
@@ -14,5 +15,6 @@ invariant-loop-round l = record {
   made : l.draft.made ≡ l.fn.draft.made;
   grows : (z : ℕ) → contains l.fn.draft.touched z ≡ true → contains l.draft.touched z ≡ true;
   longer : length l.fn.draft.touched ≤ length l.draft.touched;
+  only : (z : ℕ) → contains l.draft.touched z ≡ true → (contains l.fn.draft.touched z || is_some (map.get l.fn.draft.nodes z)) ≡ true;
   walk : (w : Trees (Option Look)) → Keeps l.fn.draft.nodes l.fn.draft.root w → Unseen w l.fn.draft.nodes l.draft.touched l.stack;
 }

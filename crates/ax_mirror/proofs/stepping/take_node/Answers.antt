@@ -20,6 +20,9 @@ use Rattle.ax_mirror.specs.Steps.{is_elsewhere, Places, taken}
 use Rattle.ax_mirror.proofs.Looks.{get_insert, at_other}
 use Rattle.ax_mirror.proofs.Tracks.{track_touch, track_then, made_step}
 use Rattle.ax_mirror.proofs.Together.{refused_absent, refused_twice, is_refused, is_accepted, keeps_on, tells_leave, tops_leave, leave, with_next}
+use Rattle.std.proofs.lemmas.Bool.{false≢true}
+use Rattle.ax_mirror.specs.Accounts.{no_id, is_id, node_names}
+use Rattle.ax_mirror.proofs.Accounts.{acc_then, acc_weaken, acc_put, or_left, or_right, self_is}
 use Rattle.ax_mirror.proofs.stepping.take_node.Goals as goal
 
 abbrev filled : Option ℕ → ℕ → NodeData → Entry
@@ -80,3 +83,14 @@ pub returns-in-Ok-put-clause-tracked : goal.returns-in-Ok-put-clause-tracked
 returns-in-Ok-put-clause-tracked g c =
     track_then _ c.place.new.draft _ (track_then _ c.take_out.new.draft c.place.new.draft c.in-Ok-take_out.ensures.tracked c.in-Ok-None.ensures.tracked)
     (track_touch c.place.new.draft _ c.args.node.now.id (λ z h. at_other _ _ _ _ h (ap (λ (m : Nodes). map.get m z) c.in-Ok-put.ensures.ok ∙ get_insert c.place.new.draft.nodes c.args.node.now.id _ z)) c.in-Ok-put.ensures.touched)
+
+pub returns-in-Ok-put-clause-accounts : goal.returns-in-Ok-put-clause-accounts
+returns-in-Ok-put-clause-accounts g c =
+    let u : NodeData = c.args.node.now in
+    let to : Entry = filled c.in-Ok.change.above c.in-Ok.change.level c.in-Ok-copy.copy in
+    acc_then (node_names u) (is_id u.id) _ c.place.new.draft _
+    (acc_then (node_names u) (is_id u.id) _ c.take_out.new.draft c.place.new.draft
+    (acc_weaken no_id no_id (node_names u) (is_id u.id) c.args.draft.now c.take_out.new.draft (λ z h. absurd (false≢true h)) (λ z h. absurd (false≢true h)) c.in-Ok-take_out.ensures.accounts)
+    (acc_weaken (contains u.children) no_id (node_names u) (is_id u.id) c.take_out.new.draft c.place.new.draft (λ z h. or_right (eqb u.id z) (contains u.children z) h) (λ z h. absurd (false≢true h)) c.in-Ok-None.ensures.accounts))
+    (acc_put (node_names u) (is_id u.id) c.place.new.draft _ u.id to (λ z. ap (λ (n : Nodes). map.get n z) c.in-Ok-put.ensures.ok ∙ get_insert c.place.new.draft.nodes u.id to z) c.in-Ok-put.ensures.touched
+    (or_left (eqb u.id u.id) (contains u.children u.id) (self_is u.id)) (inr (self_is u.id)))

@@ -1,16 +1,19 @@
 use Rattle.std.proofs.Common.{◌≡◌, ◌∙◌, ap, sym, arith}
 use Rattle.ax_mirror.proofs.Tracks.{track_start, track_then, made_start, made_then, costs_then}
 use Rattle.ax_mirror.proofs.Runs.{run_begins, run_next, run_stops, run_ends}
+use Rattle.ax_mirror.proofs.Accounts.{acc_start, acc_then, acc_node}
 use Rattle.ax_mirror.proofs.stepping.take_nodes.Goals as goal
 
 pub loop-node-init : goal.loop-node-init
-loop-node-init g c = record { came = run_begins _ _; made = made_start _; tracked = track_start _; cost = omega arith }
+loop-node-init g c = record { came = run_begins _ _; made = made_start _; tracked = track_start _; accounts = acc_start _ _ _; cost = omega arith }
 
 pub loop-node-preserved : goal.loop-node-preserved
 loop-node-preserved g c = record {
   came = run_next _ c.loop-node.draft _ _ c.loop-node.node-index c.node-item.result c.loop-node.invariant.came c.loop-node-test.true c.node-item.is c.in-Ok.ensures.ok;
   made = made_then _ c.loop-node.draft _ c.loop-node.invariant.made c.in-Ok.ensures.made;
   tracked = track_then _ c.loop-node.draft _ c.loop-node.invariant.tracked c.in-Ok.ensures.tracked;
+  accounts = acc_then _ _ _ c.loop-node.draft _ c.loop-node.invariant.accounts
+      (acc_node c.loop-node.draft _ c.args.nodes.now c.loop-node.node-index c.node-item.result c.loop-node-test.true c.node-item.is c.in-Ok.ensures.accounts);
   cost = costs_then _ _ _ _ _ _ c.loop-node.invariant.cost c.in-Ok.ensures.cost;
 }
 
@@ -29,3 +32,6 @@ returns-clause-tracked g c = c.loop-node.invariant.tracked
 
 pub returns-clause-cost : goal.returns-clause-cost
 returns-clause-cost g c = c.loop-node.invariant.cost
+
+pub returns-clause-accounts : goal.returns-clause-accounts
+returns-clause-accounts g c = c.loop-node.invariant.accounts

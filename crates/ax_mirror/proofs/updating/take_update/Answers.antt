@@ -11,6 +11,8 @@ use Rattle.ax_mirror.specs.Steps.{Gives, Settled, Makes, all_taken}
 use Rattle.ax_mirror.specs.Finishes.{Finished, Unfinished}
 use Rattle.ax_mirror.proofs.Tracks.{made_then}
 use Rattle.ax_mirror.proofs.Updates.{settled_of, missing_same, refused_clear, refused_node, refused_end, gives_trees}
+use Rattle.ax_mirror.specs.Accounts.{Accounts, list_names, lists_id}
+use Rattle.ax_mirror.proofs.Accounts.{acc_update}
 use Rattle.ax_mirror.proofs.updating.take_update.Goals as goal
 
 abbrev cleared_made : Draft → List ℕ → Draft
@@ -51,3 +53,8 @@ returns-in-Err-finish-clause-err g c = λ f h.
     let fin : Unfinished e.nodes e.made c.in-Err-finish.refusal = subst (λ (js : List ℕ). Unfinished e.nodes js c.in-Err-finish.refusal) c.as_slice-2.ensures c.in-Err-finish.ensures.err in
     let d : Draft = cleared_made c.args.draft.now c.clear.new.self in
     inr (refused_end u f gives.next c.in-Err-finish.refusal mi gives.is (fin e.root gives.next gives.keeps (settled_of d e f h (made_then d c.start.new.draft e c.in-Ok.ensures.made c.in-Ok-take_nodes.ensures.made))))
+
+pub returns-in-Ok-finish-clause-accounts : goal.returns-in-Ok-finish-clause-accounts
+returns-in-Ok-finish-clause-accounts g c =
+    acc_update c.args.update.now c.args.draft.now (cleared_made c.args.draft.now c.clear.new.self) c.start.new.draft c.take_nodes.new.draft refl refl c.in-Ok.ensures.accounts
+    (subst (λ (us : List NodeData). Accounts (list_names us) (lists_id us) c.start.new.draft c.take_nodes.new.draft) c.as_slice.ensures c.in-Ok-take_nodes.ensures.accounts)

@@ -1,4 +1,4 @@
-use Rattle.std.proofs.Common.{◌≡◌, ◌≤◌, ◌+◌, ◌∙◌, ap, sym, subst, ℕ, List, length, arith, Ok}
+use Rattle.std.proofs.Common.{◌≡◌, ◌≤◌, ◌+◌, ◌∙◌, ap, sym, subst, [], ◌∷◌, ℕ, List, length, arith, Ok}
 use Rattle.ax_node.specs.declared.tree_data.TreeData.{TreeData}
 use Rattle.ax_tree.specs.Tree.{Tree, empty}
 use Rattle.ax_tree.specs.Updates.{applied, applied_all}
@@ -6,7 +6,8 @@ use Rattle.ax_tree.specs.declared.update.TreeUpdate.{TreeUpdate}
 use Rattle.ax_trees.specs.Trees.{bare}
 use Rattle.ax_mirror.specs.Kept.{shown}
 use Rattle.ax_mirror.specs.Mirrors.{with_about, NamesChanges, RefusedAs, BrokenAs, Applies, IsBroken}
-use Rattle.ax_mirror.proofs.Bundles.{mirror_holds, mirror_is, mirror_names, mirror_broken}
+use Rattle.ax_mirror.specs.Accounts.{NamesOnly, TouchesOnly}
+use Rattle.ax_mirror.proofs.Bundles.{mirror_holds, mirror_is, mirror_names, mirror_only, mirror_broken}
 use Rattle.ax_mirror.proofs.mirrored.Mirror.apply_on.Goals as goal
 
 pub invariant_of-self : goal.invariant_of-self
@@ -27,3 +28,7 @@ pub returns-clause-cost : goal.returns-clause-cost
 returns-clause-cost g c =
     let none : length c.in-Ok.draft.touched ≡ 0 = ap (λ (js : List ℕ). length js) c.in-Ok.ensures.2 in
     omega (arith, c.in-Ok-take_all.ensures.cost)
+
+pub returns-clause-only : goal.returns-clause-only
+returns-clause-only g c = subst (λ (t : Tree). NamesOnly c.args.bundle.now t (with_about c.take_all.new.about (shown c.take_all.new.draft.nodes c.take_all.new.draft.root)) c.take_all.new.draft.touched) (ap (λ (a : TreeData). with_about a (shown c.self.inside.nodes c.self.inside.root)) c.in-Ok-copy.ensures ∙ c.self.view_is)
+    (mirror_only c.self.inside.nodes c.self.inside.root c.in-Ok-copy.about c.self.invariant c.in-Ok.draft c.take_all.new.draft c.take_all.new.about (λ t. applied_all c.args.bundle.now t) c.in-Ok.ensures.0 c.in-Ok.ensures.1 (subst (λ (us : List TreeUpdate). Applies (λ t. applied_all us t) c.in-Ok.draft c.in-Ok-copy.about c.take_all.new.draft c.take_all.new.about) c.as_slice.ensures c.in-Ok-take_all.ensures.ok) c.args.bundle.now (subst (λ (us : List TreeUpdate). TouchesOnly us c.in-Ok.draft c.take_all.new.draft) c.as_slice.ensures c.in-Ok-take_all.ensures.only) c.in-Ok.ensures.2)
