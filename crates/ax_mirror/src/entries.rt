@@ -1,4 +1,4 @@
-ghost use Rattle.std.specs.Prelude.{◌≡◌, ◌<◌, ◌≤◌, ◌+◌, length, OnOk, if◌then◌else◌};
+ghost use Rattle.std.specs.Prelude.{◌≡◌, ◌≤◌, ◌+◌, length, OnOk, if◌then◌else◌};
 ghost use Rattle.std.specs.FinMap as map;
 ghost use Rattle.ax_mirror.specs.Once.{with_id};
 
@@ -6,8 +6,7 @@ use crate::touching::Touched;
 use ax_base::{NoMemory, NodeId};
 use ax_node::NodeData;
 use ax_pages::{Paged, Steps};
-use std::marker::Brand;
-use std::sync::ledger::{Blank, Ledger};
+use std::sync::ledger::Ledger;
 
 /// What stands at an id. A pending node was named, and its data haven't come.
 #[derive(Drop)]
@@ -55,7 +54,8 @@ pub fn take<L: Ledger>(
     Ok(())
 }
 
-// One step where the id is new among the touched ones.
+// One step where the id is new among the touched ones. The page of any other id is this draft's own, or went with its last
+// entry, so nothing is copied.
 fn write_page<L: Ledger>(
     nodes: &mut Entries,
     id: NodeId,
@@ -69,7 +69,7 @@ fn write_page<L: Ledger>(
     if new {
         return nodes.write(id, entry, steps);
     }
-    write_again::<Brand>(nodes, id, entry, Blank::new(1))
+    nodes.write_own(id, entry)
 }
 
 fn erase_page<L: Ledger>(
@@ -84,28 +84,5 @@ fn erase_page<L: Ledger>(
     if new {
         return nodes.erase(id, steps);
     }
-    erase_again::<Brand>(nodes, id, Blank::new(1))
-}
-
-// The page of an id that was touched is this draft's own, or it went with its last entry: nothing is copied, so that there
-// is nothing to count.
-fn write_again<L: Ledger>(
-    nodes: &mut Entries,
-    id: NodeId,
-    entry: Entry,
-    blank: Blank,
-) -> Result<(), NoMemory>
-    requires { (blank.name ≡ L.name) × (blank.parts ≡ L.parts) × (0 < L.parts) }
-    ensures { OnOk result (nodes.new ≡ map.insert nodes.old id entry) }
-{
-    let mut steps: Steps<L> = Steps::start(blank);
-    nodes.write(id, entry, &mut steps)
-}
-
-fn erase_again<L: Ledger>(nodes: &mut Entries, id: NodeId, blank: Blank) -> Result<(), NoMemory>
-    requires { (blank.name ≡ L.name) × (blank.parts ≡ L.parts) × (0 < L.parts) }
-    ensures { OnOk result (nodes.new ≡ map.remove nodes.old id) }
-{
-    let mut steps: Steps<L> = Steps::start(blank);
-    nodes.erase(id, &mut steps)
+    nodes.erase_own(id)
 }
