@@ -1,4 +1,5 @@
 pub mod Buffers
 pub mod Combining
+pub mod ErrorText
 pub mod Strings
 pub mod Walks

@@ -7,6 +7,7 @@
 
 mod combined;
 mod dump;
+mod error;
 mod line;
 mod names;
 mod node;
@@ -22,10 +23,12 @@ ghost use Rattle.ax_rules.specs.LineText.{line_text};
 ghost use Rattle.ax_rules.specs.CombineText.{combined_text};
 ghost use Rattle.ax_rules.specs.ReplayText.{order_text};
 ghost use Rattle.ax_rules.specs.Dump.{dump_text};
+ghost use Rattle.ax_report.specs.ErrorText.{script_error_text};
 ghost use Rattle.ax_report.specs.Walks.{standing_text, AreTheTrees};
 
 use ax_ask::{Items, Line};
 use ax_base::{NoMemory, TreeId};
+use ax_script::ScriptErr;
 use ax_tree::Grove;
 pub use combined::CombinedView;
 use std::alloc::AllocError;
@@ -90,5 +93,16 @@ pub fn combined_text<C: CombinedView>(c: &C, out: &mut Bytes) -> Result<(), NoMe
     let alloc = *out.allocator();
     let before = out.len();
     let done = combined::put_combined(alloc, c, out);
+    ended(out, before, done)
+}
+
+/// Appends the line of a refused script. Want of memory is no refusal, and has no text.
+pub fn script_error_text(e: &ScriptErr, out: &mut Bytes) -> Result<(), NoMemory>
+    ensures ok { OnOk result (out.new.items ≡ out.old.items ++ script_error_text e.now) }
+    ensures err { OnErr result (out.new.items ≡ out.old.items) }
+{
+    let alloc = *out.allocator();
+    let before = out.len();
+    let done = error::put_error(alloc, e, out);
     ended(out, before, done)
 }
