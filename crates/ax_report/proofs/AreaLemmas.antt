@@ -1,5 +1,5 @@
 -- When the test of a rectangle says that it is blank.
-use Rattle.std.proofs.Common.{ℤ, pos, ◌≡◌, ◌↔◌, IsTrue, Bool, true, false, ◌&&◌, int_le, refl, sym, ap, true≢false, arith}
+use Rattle.std.proofs.Common.{ℤ, pos, ◌≡◌, ◌↔◌, IsTrue, Bool, true, false, ◌&&◌, refl, sym, ap, true≢false, arith}
 use Rattle.std.proofs.lemmas.Int.{ints}
 use Rattle.ax_base.specs.Area.{Area}
 use Rattle.ax_node.specs.Look.{blank_area}

@@ -1,5 +1,5 @@
 -- The rows of a combined tree.
-use Rattle.std.proofs.Common.{ℕ, zero, suc, ◌+◌, ◌<◌, ◌≤◌, ◌^◌, ◌≡◌, List, [], ◌∷◌, ◌++◌, length, take, Bor, refl, sym, ap, ap₂, ◌∙◌, subst, arith, add-one, Option, None, Some, option_map, unwrap_or, append_assoc, append-nil, flat_map}
+use Rattle.std.proofs.Common.{ℕ, zero, suc, ◌+◌, ◌<◌, ◌≡◌, List, [], ◌∷◌, ◌++◌, length, take, Bor, refl, sym, ap, ◌∙◌, arith, add-one, Option, None, Some, option_map, unwrap_or, append_assoc, append-nil, flat_map}
 use Rattle.std.specs.Prelude.{codes, slice_get, option_to_list, IsSome}
 use Rattle.std.specs.List.{enumerate_from}
 use Rattle.std.specs.Option.{option_copied}

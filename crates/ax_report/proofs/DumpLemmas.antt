@@ -3,7 +3,7 @@ use Rattle.std.proofs.Common.{ℕ, ◌≡◌, Bool, true, false, ◌||◌, ◌==
 use Rattle.std.specs.declared.alloc.AllocError.{AllocError}
 use Rattle.ax_base.specs.declared.seq.NoMemory.{NoMemory}
 use Rattle.ax_trees.specs.Lists.{contains, NoneTwice}
-use Rattle.ax_tree.specs.Forest.{Forest, Standing, live_tree}
+use Rattle.ax_tree.specs.Forest.{Forest, Standing}
 use Rattle.ax_rules.specs.Dump.{dump_text, tree_or_gone}
 use Rattle.ax_report.specs.Walks.{standing_text, AreTheTrees}
 

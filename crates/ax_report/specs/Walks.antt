@@ -1,5 +1,5 @@
 -- The lines of a tree, one node after the other.
-use Rattle.std.specs.Prelude.{ℕ, suc, List, [], ◌∷◌, codes, if◌then◌else◌, flat_map, ◌≡◌, map}
+use Rattle.std.specs.Prelude.{ℕ, suc, List, [], ◌∷◌, codes, if◌then◌else◌, ◌≡◌, map}
 use Rattle.std.specs.Fmt.{decimal}
 use Rattle.ax_base.specs.Area.{Area}
 use Rattle.ax_node.specs.Look.{Look, blank_area}

@@ -106,3 +106,6 @@ pub fn script_error_text(e: &ScriptErr, out: &mut Bytes) -> Result<(), NoMemory>
     let done = error::put_error(alloc, e, out);
     ended(out, before, done)
 }
+
+#[cfg(test)]
+mod tests;

@@ -1,4 +1,4 @@
-use Rattle.std.proofs.Common.{◌++◌, sym, ap, ◌∙◌, Some}
+use Rattle.std.proofs.Common.{◌++◌, sym, ap, ◌∙◌}
 use Rattle.std.specs.Option.{option_copied}
 use Rattle.ax_report.proofs.CombinedLemmas.{node_there, row_done}
 use Rattle.ax_report.proofs.combined.put_row.Goals as goal
