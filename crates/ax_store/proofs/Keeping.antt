@@ -29,6 +29,7 @@ module _ {E X : Type 0} (entry_of : ℕ → Spot X → E) (spot_of : E → Spot 
 
   -- the trees that are read off the map are those that it keeps
   pub seen : (m : ℕ → Option E) (root : Option ℕ) (f : Trees X) → Keeps entry_of m root f → trees_in spot_of m root ≡ f
+  unfolding trees_in
   seen m root f k = (shown (node_in spot_of m) 256 (option_to_list root) f k.is_tree k.low (stands m root f k) k.tops).0
 
   -- so it keeps what is read off it

@@ -13,7 +13,7 @@ abbrev pub node_in : {E X : Type 0} → (E → Spot X) → (ℕ → Option E) �
 node_in spot_of m z = option_map (λ e. spot_node z (spot_of e)) (m z)
 
 -- the trees that a map shows below a root, or none: no chain of a kept tree has more than 256 nodes
-abbrev pub trees_in : {E X : Type 0} → (E → Spot X) → (ℕ → Option E) → Option ℕ → Trees X
+unfoldable pub trees_in : {E X : Type 0} → (E → Spot X) → (ℕ → Option E) → Option ℕ → Trees X
 trees_in spot_of m root = grown (node_in spot_of m) 256 (option_to_list root)
 
 -- The map keeps the tree f below the root: at each id of f it has the entry of what stands there, and nothing at any other.

@@ -1,0 +1,31 @@
+use Rattle.std.proofs.Common.{ℕ, List, Option, Some, ap, subst, ◌∙◌, refl}
+use Rattle.std.specs.Prelude.{nat_eq, IsSome, option_map}
+use Rattle.std.specs.HashMap.{get}
+use Rattle.std.proofs.lemmas.Bool.{ne_eqb, eqb-true}
+use Rattle.ax_source.specs.declared.entries.Entry.{Entry}
+use Rattle.ax_source.specs.Changes.{child_added}
+use Rattle.ax_source.proofs.Lists.{insert-inserted}
+use Rattle.ax_source.proofs.Linked.{on_ok, on_err, same_back}
+use Rattle.ax_source.proofs.entries.add_child.Goals as goal
+
+pub returns-in-Some-clause-here : goal.returns-in-Some-clause-here
+returns-in-Some-clause-here c =
+    let there = subst (λ (o : Option Entry). IsSome o) c.in-Some.ensures.value refl in
+    on_ok c.insert.result _ _ c.insert.ensures.ok (λ same.
+    ((c.get_mut.follows.holds _).3 there).1
+    ∙ ap (λ (js : List ℕ). Some (record { node = record c.in-Some.entry.now.node { children = js }; above = c.in-Some.entry.now.above })) (same ∙ insert-inserted c.args.index c.args.child _)
+    ∙ ap (option_map (child_added c.args.index c.args.child)) c.in-Some.ensures.value)
+
+pub returns-in-Some-clause-others : goal.returns-in-Some-clause-others
+returns-in-Some-clause-others c =
+    let there = subst (λ (o : Option Entry). IsSome o) c.in-Some.ensures.value refl in
+    λ q ne. ((c.get_mut.follows.holds _).3 there).2 q (ne_eqb c.args.parent q ne)
+
+pub returns-in-Some-clause-err : goal.returns-in-Some-clause-err
+returns-in-Some-clause-err c =
+    let there = subst (λ (o : Option Entry). IsSome o) c.in-Some.ensures.value refl in
+    on_err c.insert.result _ _ c.insert.ensures.err (λ same q.
+    ((c.get_mut.follows.holds _).3 there).0 q ∙
+    same_back _ _ _ (λ t.
+    ap (λ (js : List ℕ). Some (record { node = record c.in-Some.entry.now.node { children = js }; above = c.in-Some.entry.now.above })) same
+    ∙ c.in-Some.ensures.value ∙ ap (get nat_eq c.args.entries.now) (eqb-true c.args.parent q t)))
