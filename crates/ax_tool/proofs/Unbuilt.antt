@@ -1,5 +1,5 @@
 -- What isn't built, step by step.
-use Rattle.std.proofs.Common.{◌≡◌, ◌<◌, ◌≤◌, ◌+◌, ◌&&◌, inl, inr, ℕ, zero, suc, ℤ, pos, List, [], ◌∷◌, length, refl, arith, Bool, true, false, IsTrue, Option, Some, None, Result, Ok, Err}
+use Rattle.std.proofs.Common.{◌≡◌, ◌<◌, ◌≤◌, ◌+◌, ◌&&◌, inl, inr, ℕ, zero, ℤ, pos, List, [], ◌∷◌, length, refl, arith, Bool, true, false, IsTrue, Some, None, Result, Ok, Err}
 use Rattle.ax_base.specs.Area.{Area}
 use Rattle.ax_node.specs.Look.{blank_area}
 use Rattle.ax_ask.specs.declared.op.FrameOp.{FrameOp}
