@@ -5,13 +5,13 @@ ghost use Rattle.ax_mirror.specs.Begins.{Forgets};
 ghost use Rattle.ax_mirror.specs.Mirrors.{Applies, IsRefused, IsBroken, TrackedHeld};
 ghost use Rattle.ax_mirror.specs.Accounts.{TouchesOnly};
 
+use crate::about::About;
 use crate::draft::Draft;
 use crate::entries::Entries;
 use crate::starting::touch_all;
 use crate::touching::Touched;
-use crate::updating::{take_update, tell};
+use crate::updating::take_update;
 use ax_base::{Ids, NoMemory, NodeId};
-use ax_node::TreeData;
 use ax_pages::Steps;
 use ax_tree::{BundleErr, Refusal, TreeUpdate};
 use std::alloc::Global;
@@ -47,7 +47,7 @@ pub fn begin_anew(nodes: &Entries, root: Option<NodeId>, alloc: Global) -> Resul
 /// Applies an update. After a refusal the draft is of no use.
 pub fn take_one<L: Ledger>(
     draft: &mut Draft,
-    about: &mut TreeData,
+    about: &mut About,
     update: &TreeUpdate,
     alloc: Global,
     steps: &mut Steps<L>,
@@ -62,7 +62,7 @@ pub fn take_one<L: Ledger>(
         Ok(()) => {}
         Err(refusal) => return Err(refusal),
     }
-    match tell(about, &update.tree_data) {
+    match about.tell(&update.tree_data, alloc) {
         Ok(()) => Ok(()),
         Err(_) => Err(Refusal::NoMemory),
     }
@@ -71,7 +71,7 @@ pub fn take_one<L: Ledger>(
 /// Applies updates one after the other. After a refusal the draft is of no use.
 pub fn take_all<L: Ledger>(
     draft: &mut Draft,
-    about: &mut TreeData,
+    about: &mut About,
     updates: &[TreeUpdate],
     alloc: Global,
     steps: &mut Steps<L>,

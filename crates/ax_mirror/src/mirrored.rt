@@ -4,6 +4,7 @@ ghost use Rattle.ax_tree.specs.Updates.{applied, applied_all};
 ghost use Rattle.ax_mirror.specs.Mirrors.{NamesChanges, RefusedAs, BrokenAs, IsForMemory, base_of};
 ghost use Rattle.ax_mirror.specs.Accounts.{NamesOnly};
 
+use crate::about::About;
 use crate::bundling::{begin, begin_anew, take_all, take_one};
 use crate::entries::Entries;
 use crate::touching::Touched;
@@ -20,7 +21,7 @@ use std::sync::ledger::{Blank, Ledger};
 pub struct Mirror {
     nodes: Entries,
     root: Option<NodeId>,
-    about: TreeData,
+    about: About,
     alloc: Global,
 }
 
@@ -46,17 +47,17 @@ impl Mirror {
         Mirror {
             nodes: Entries::new(alloc),
             root: None,
-            about: TreeData::blank(alloc, tree),
+            about: About::new(alloc, tree),
             alloc,
         }
     }
 
-    /// The same mirror. It shares the nodes, and copies the tree data alone.
+    /// The same mirror. It shares nodes and tree data, and takes no memory.
     pub fn share(&self) -> Result<Mirror, NoMemory>
         ensures { IfOk result (λ m. m ≡ self.now) }
     {
         let nodes = self.nodes.share()?;
-        let about = self.about.copy()?;
+        let about = self.about.share(self.alloc)?;
         Ok(Mirror {
             nodes,
             root: self.root,
@@ -96,7 +97,7 @@ impl Mirror {
         let Ok(mut draft) = begin(&self.nodes, self.root, self.alloc) else {
             return Err(Refusal::NoMemory);
         };
-        let Ok(mut about) = self.about.copy() else {
+        let Ok(mut about) = self.about.share(self.alloc) else {
             return Err(Refusal::NoMemory);
         };
         match take_one(&mut draft, &mut about, update, self.alloc, &mut steps) {
@@ -146,7 +147,7 @@ impl Mirror {
         let Ok(mut draft) = begin(&self.nodes, self.root, self.alloc) else {
             return Err(no_memory());
         };
-        let Ok(mut about) = self.about.copy() else {
+        let Ok(mut about) = self.about.share(self.alloc) else {
             return Err(no_memory());
         };
         match take_all(&mut draft, &mut about, bundle.as_slice(), self.alloc, steps) {
@@ -174,7 +175,7 @@ impl Mirror {
         let Ok(mut draft) = begin_anew(&self.nodes, self.root, self.alloc) else {
             return Err(no_memory());
         };
-        let mut about = TreeData::blank(self.alloc, self.about.tree);
+        let mut about = About::new(self.alloc, self.about.get().tree);
         match take_all(&mut draft, &mut about, bundle.as_slice(), self.alloc, steps) {
             Ok(()) => {}
             Err(refusal) => return Err(refusal),
@@ -217,7 +218,7 @@ impl TreeView for Mirror {
     }
 
     fn tree_data(&self) -> &TreeData {
-        &self.about
+        self.about.get()
     }
 
     fn count(&self) -> usize {

@@ -1,5 +1,4 @@
 ghost use Rattle.std.specs.Prelude.{◌≡◌, ◌≤◌, ◌+◌, length, OnOk, IfErr};
-ghost use Rattle.ax_tree.specs.Updates.{told};
 ghost use Rattle.ax_mirror.specs.Steps.{Updates, UpdateRefused};
 ghost use Rattle.ax_mirror.specs.Begins.{TrackedTrees, missing_in};
 ghost use Rattle.ax_mirror.specs.Accounts.{Accounts, names, lists_id};
@@ -10,7 +9,6 @@ use crate::finishing::finish;
 use crate::starting::start;
 use crate::stepping::take_nodes;
 use ax_base::{NoMemory, NodeId};
-use ax_node::TreeData;
 use ax_pages::Steps;
 use ax_tree::{Refusal, TreeUpdate};
 use std::alloc::Global;
@@ -62,16 +60,4 @@ fn missing(nodes: &Entries, clear: Option<NodeId>) -> Option<NodeId>
         }
         None => None,
     }
-}
-
-/// Puts new tree data in the place of the old ones, but for the tree id.
-pub fn tell(about: &mut TreeData, news: &Option<TreeData>) -> Result<(), NoMemory>
-    ensures { OnOk result (about.new ≡ told news.now about.old) }
-{
-    if let Some(news) = news {
-        let tree = about.tree;
-        *about = news.copy()?;
-        about.tree = tree;
-    }
-    Ok(())
 }
