@@ -14,6 +14,7 @@ pub struct About {
     // What a reader gets while nothing was told.
     blank: TreeData,
     told: Option<Arc<TreeData>>,
+    alloc: Global,
 }
 
 impl Model for About {
@@ -39,6 +40,7 @@ impl About {
         About {
             blank: TreeData::blank(alloc, tree),
             told: None,
+            alloc,
         }
     }
 
@@ -52,24 +54,29 @@ impl About {
     }
 
     /// The same data. It takes no memory.
-    pub fn share(&self, alloc: Global) -> Result<About, NoMemory>
+    pub fn share(&self) -> Result<About, NoMemory>
         ensures { IfOk result (λ a. a ≡ self.now) }
     {
-        let blank = TreeData::blank(alloc, self.blank.tree);
+        let blank = TreeData::blank(self.alloc, self.blank.tree);
         match &self.told {
             Some(told) => match Arc::try_clone(told) {
                 Ok(told) => Ok(About {
                     blank,
                     told: Some(told),
+                    alloc: self.alloc,
                 }),
                 Err(_) => Err(NoMemory),
             },
-            None => Ok(About { blank, told: None }),
+            None => Ok(About {
+                blank,
+                told: None,
+                alloc: self.alloc,
+            }),
         }
     }
 
     /// Puts new tree data in the place of the old ones, but for the tree id.
-    pub fn tell(&mut self, news: &Option<TreeData>, alloc: Global) -> Result<(), NoMemory>
+    pub fn tell(&mut self, news: &Option<TreeData>) -> Result<(), NoMemory>
         ensures { OnOk result (self.new ≡ told news.now self.old) }
     {
         let tree = self.get().tree;
@@ -77,7 +84,7 @@ impl About {
             Some(news) => {
                 let mut data = news.copy()?;
                 data.tree = tree;
-                match Arc::new(alloc, data) {
+                match Arc::new(self.alloc, data) {
                     Ok(data) => {
                         self.told = Some(data);
                         Ok(())

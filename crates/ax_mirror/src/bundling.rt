@@ -14,13 +14,13 @@ use crate::updating::take_update;
 use ax_base::{Ids, NoMemory, NodeId};
 use ax_pages::Steps;
 use ax_tree::{BundleErr, Refusal, TreeUpdate};
-use std::alloc::Global;
 use std::sync::ledger::Ledger;
 
 /// A draft that shares the nodes.
-pub fn begin(nodes: &Entries, root: Option<NodeId>, alloc: Global) -> Result<Draft, NoMemory>
+pub fn begin(nodes: &Entries, root: Option<NodeId>) -> Result<Draft, NoMemory>
     ensures { IfOk result (λ d. (d.nodes ≡ nodes.now) × (d.root ≡ root) × (d.touched ≡ [])) }
 {
+    let alloc = nodes.allocator();
     let nodes = nodes.share()?;
     Ok(Draft {
         nodes,
@@ -31,13 +31,13 @@ pub fn begin(nodes: &Entries, root: Option<NodeId>, alloc: Global) -> Result<Dra
 }
 
 /// A draft of no node, in which all ids of the old ones are touched.
-pub fn begin_anew(nodes: &Entries, root: Option<NodeId>, alloc: Global) -> Result<Draft, NoMemory>
+pub fn begin_anew(nodes: &Entries, root: Option<NodeId>) -> Result<Draft, NoMemory>
     ensures { IfOk result (λ d. Forgets nodes.now root d) }
 {
-    let mut draft = begin(nodes, root, alloc)?;
-    touch_all(&mut draft, alloc)?;
+    let mut draft = begin(nodes, root)?;
+    touch_all(&mut draft)?;
     Ok(Draft {
-        nodes: Entries::new(alloc),
+        nodes: Entries::new(nodes.allocator()),
         root: None,
         touched: draft.touched,
         made: draft.made,
@@ -49,7 +49,6 @@ pub fn take_one<L: Ledger>(
     draft: &mut Draft,
     about: &mut About,
     update: &TreeUpdate,
-    alloc: Global,
     steps: &mut Steps<L>,
 ) -> Result<(), Refusal>
     ensures ok { OnOk result (Applies (λ t. applied update.now t) draft.old about.old draft.new about.new) }
@@ -58,11 +57,11 @@ pub fn take_one<L: Ledger>(
     ensures cost { OnOk result (steps.new + length draft.old.touched ≤ steps.old + length draft.new.touched) }
     ensures only { OnOk result (TouchesOnly (update.now ∷ []) draft.old draft.new) }
 {
-    match take_update(draft, update, alloc, steps) {
+    match take_update(draft, update, steps) {
         Ok(()) => {}
         Err(refusal) => return Err(refusal),
     }
-    match about.tell(&update.tree_data, alloc) {
+    match about.tell(&update.tree_data) {
         Ok(()) => Ok(()),
         Err(_) => Err(Refusal::NoMemory),
     }
@@ -73,7 +72,6 @@ pub fn take_all<L: Ledger>(
     draft: &mut Draft,
     about: &mut About,
     updates: &[TreeUpdate],
-    alloc: Global,
     steps: &mut Steps<L>,
 ) -> Result<(), BundleErr>
     ensures ok { OnOk result (Applies (λ t. applied_all updates.now t) draft.old about.old draft.new about.new) }
@@ -83,7 +81,7 @@ pub fn take_all<L: Ledger>(
     ensures only { OnOk result (TouchesOnly updates.now draft.old draft.new) }
 {
     for (at, update) in updates.iter().enumerate() {
-        match take_one(draft, about, update, alloc, steps) {
+        match take_one(draft, about, update, steps) {
             Ok(()) => {}
             Err(why) => return Err(BundleErr { at, why }),
         }

@@ -22,7 +22,6 @@ pub struct Mirror {
     nodes: Entries,
     root: Option<NodeId>,
     about: About,
-    alloc: Global,
 }
 
 impl Model for Mirror {
@@ -48,7 +47,6 @@ impl Mirror {
             nodes: Entries::new(alloc),
             root: None,
             about: About::new(alloc, tree),
-            alloc,
         }
     }
 
@@ -57,12 +55,11 @@ impl Mirror {
         ensures { IfOk result (λ m. m ≡ self.now) }
     {
         let nodes = self.nodes.share()?;
-        let about = self.about.share(self.alloc)?;
+        let about = self.about.share()?;
         Ok(Mirror {
             nodes,
             root: self.root,
             about,
-            alloc: self.alloc,
         })
     }
 
@@ -94,13 +91,13 @@ impl Mirror {
         ensures only { IfOk result (λ t. NamesOnly (update.now ∷ []) self.old self.new t) }
     {
         let mut steps: Steps<L> = Steps::start(blank);
-        let Ok(mut draft) = begin(&self.nodes, self.root, self.alloc) else {
+        let Ok(mut draft) = begin(&self.nodes, self.root) else {
             return Err(Refusal::NoMemory);
         };
-        let Ok(mut about) = self.about.share(self.alloc) else {
+        let Ok(mut about) = self.about.share() else {
             return Err(Refusal::NoMemory);
         };
-        match take_one(&mut draft, &mut about, update, self.alloc, &mut steps) {
+        match take_one(&mut draft, &mut about, update, &mut steps) {
             Ok(()) => {}
             Err(refusal) => return Err(refusal),
         }
@@ -144,13 +141,13 @@ impl Mirror {
         ensures cost { IfOk result (λ t. steps.new ≤ steps.old + length t) }
         ensures only { IfOk result (λ t. NamesOnly bundle.now self.old self.new t) }
     {
-        let Ok(mut draft) = begin(&self.nodes, self.root, self.alloc) else {
+        let Ok(mut draft) = begin(&self.nodes, self.root) else {
             return Err(no_memory());
         };
-        let Ok(mut about) = self.about.share(self.alloc) else {
+        let Ok(mut about) = self.about.share() else {
             return Err(no_memory());
         };
-        match take_all(&mut draft, &mut about, bundle.as_slice(), self.alloc, steps) {
+        match take_all(&mut draft, &mut about, bundle.as_slice(), steps) {
             Ok(()) => {}
             Err(refusal) => return Err(refusal),
         }
@@ -172,11 +169,11 @@ impl Mirror {
         ensures cost { IfOk result (λ t. steps.new ≤ steps.old + length t) }
         ensures only { IfOk result (λ t. NamesOnly bundle.now self.old self.new t) }
     {
-        let Ok(mut draft) = begin_anew(&self.nodes, self.root, self.alloc) else {
+        let Ok(mut draft) = begin_anew(&self.nodes, self.root) else {
             return Err(no_memory());
         };
-        let mut about = About::new(self.alloc, self.about.get().tree);
-        match take_all(&mut draft, &mut about, bundle.as_slice(), self.alloc, steps) {
+        let mut about = About::new(self.nodes.allocator(), self.about.get().tree);
+        match take_all(&mut draft, &mut about, bundle.as_slice(), steps) {
             Ok(()) => {}
             Err(refusal) => return Err(refusal),
         }

@@ -11,14 +11,12 @@ use crate::stepping::take_nodes;
 use ax_base::{NoMemory, NodeId};
 use ax_pages::Steps;
 use ax_tree::{Refusal, TreeUpdate};
-use std::alloc::Global;
 use std::sync::ledger::Ledger;
 
 /// Applies an update without its tree data. After a refusal the draft is of no use.
 pub fn take_update<L: Ledger>(
     draft: &mut Draft,
     update: &TreeUpdate,
-    alloc: Global,
     steps: &mut Steps<L>,
 ) -> Result<(), Refusal>
     ensures ok { OnOk result (Updates draft.old draft.new update.now) }
@@ -32,11 +30,11 @@ pub fn take_update<L: Ledger>(
         None => {}
         Some(id) => return Err(Refusal::BadClear(id)),
     }
-    match start(draft, update.root, update.clear, alloc, steps) {
+    match start(draft, update.root, update.clear, steps) {
         Ok(()) => {}
         Err(_) => return Err(Refusal::NoMemory),
     }
-    match take_nodes(draft, update.nodes.as_slice(), alloc, steps) {
+    match take_nodes(draft, update.nodes.as_slice(), steps) {
         Ok(()) => {}
         Err(refusal) => return Err(refusal),
     }
