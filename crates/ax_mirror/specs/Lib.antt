@@ -7,3 +7,4 @@ pub mod Begins
 pub mod Finishes
 pub mod Mirrors
 pub mod Accounts
+pub mod Shared

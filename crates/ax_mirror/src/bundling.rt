@@ -5,22 +5,22 @@ ghost use Rattle.ax_mirror.specs.Begins.{Forgets};
 ghost use Rattle.ax_mirror.specs.Mirrors.{Applies, IsRefused, IsBroken, TrackedHeld};
 ghost use Rattle.ax_mirror.specs.Accounts.{TouchesOnly};
 
+use crate::about::About;
 use crate::draft::Draft;
 use crate::entries::Entries;
 use crate::starting::touch_all;
 use crate::touching::Touched;
-use crate::updating::{take_update, tell};
+use crate::updating::take_update;
 use ax_base::{Ids, NoMemory, NodeId};
-use ax_node::TreeData;
 use ax_pages::Steps;
 use ax_tree::{BundleErr, Refusal, TreeUpdate};
-use std::alloc::Global;
 use std::sync::ledger::Ledger;
 
 /// A draft that shares the nodes.
-pub fn begin(nodes: &Entries, root: Option<NodeId>, alloc: Global) -> Result<Draft, NoMemory>
+pub fn begin(nodes: &Entries, root: Option<NodeId>) -> Result<Draft, NoMemory>
     ensures { IfOk result (λ d. (d.nodes ≡ nodes.now) × (d.root ≡ root) × (d.touched ≡ [])) }
 {
+    let alloc = nodes.allocator();
     let nodes = nodes.share()?;
     Ok(Draft {
         nodes,
@@ -31,13 +31,13 @@ pub fn begin(nodes: &Entries, root: Option<NodeId>, alloc: Global) -> Result<Dra
 }
 
 /// A draft of no node, in which all ids of the old ones are touched.
-pub fn begin_anew(nodes: &Entries, root: Option<NodeId>, alloc: Global) -> Result<Draft, NoMemory>
+pub fn begin_anew(nodes: &Entries, root: Option<NodeId>) -> Result<Draft, NoMemory>
     ensures { IfOk result (λ d. Forgets nodes.now root d) }
 {
-    let mut draft = begin(nodes, root, alloc)?;
-    touch_all(&mut draft, alloc)?;
+    let mut draft = begin(nodes, root)?;
+    touch_all(&mut draft)?;
     Ok(Draft {
-        nodes: Entries::new(alloc),
+        nodes: Entries::new(nodes.allocator()),
         root: None,
         touched: draft.touched,
         made: draft.made,
@@ -47,9 +47,8 @@ pub fn begin_anew(nodes: &Entries, root: Option<NodeId>, alloc: Global) -> Resul
 /// Applies an update. After a refusal the draft is of no use.
 pub fn take_one<L: Ledger>(
     draft: &mut Draft,
-    about: &mut TreeData,
+    about: &mut About,
     update: &TreeUpdate,
-    alloc: Global,
     steps: &mut Steps<L>,
 ) -> Result<(), Refusal>
     ensures ok { OnOk result (Applies (λ t. applied update.now t) draft.old about.old draft.new about.new) }
@@ -58,11 +57,11 @@ pub fn take_one<L: Ledger>(
     ensures cost { OnOk result (steps.new + length draft.old.touched ≤ steps.old + length draft.new.touched) }
     ensures only { OnOk result (TouchesOnly (update.now ∷ []) draft.old draft.new) }
 {
-    match take_update(draft, update, alloc, steps) {
+    match take_update(draft, update, steps) {
         Ok(()) => {}
         Err(refusal) => return Err(refusal),
     }
-    match tell(about, &update.tree_data) {
+    match about.tell(&update.tree_data) {
         Ok(()) => Ok(()),
         Err(_) => Err(Refusal::NoMemory),
     }
@@ -71,9 +70,8 @@ pub fn take_one<L: Ledger>(
 /// Applies updates one after the other. After a refusal the draft is of no use.
 pub fn take_all<L: Ledger>(
     draft: &mut Draft,
-    about: &mut TreeData,
+    about: &mut About,
     updates: &[TreeUpdate],
-    alloc: Global,
     steps: &mut Steps<L>,
 ) -> Result<(), BundleErr>
     ensures ok { OnOk result (Applies (λ t. applied_all updates.now t) draft.old about.old draft.new about.new) }
@@ -83,7 +81,7 @@ pub fn take_all<L: Ledger>(
     ensures only { OnOk result (TouchesOnly updates.now draft.old draft.new) }
 {
     for (at, update) in updates.iter().enumerate() {
-        match take_one(draft, about, update, alloc, steps) {
+        match take_one(draft, about, update, steps) {
             Ok(()) => {}
             Err(why) => return Err(BundleErr { at, why }),
         }

@@ -1,6 +1,7 @@
 //! The receiver's copy of a tree: updates change it by the update rule, or are refused and change nothing.
 #![tactic(auto)]
 
+mod about;
 mod bundling;
 mod children;
 mod draft;

@@ -4,6 +4,7 @@ ghost use Rattle.ax_tree.specs.Updates.{applied, applied_all};
 ghost use Rattle.ax_mirror.specs.Mirrors.{NamesChanges, RefusedAs, BrokenAs, IsForMemory, base_of};
 ghost use Rattle.ax_mirror.specs.Accounts.{NamesOnly};
 
+use crate::about::About;
 use crate::bundling::{begin, begin_anew, take_all, take_one};
 use crate::entries::Entries;
 use crate::touching::Touched;
@@ -20,8 +21,7 @@ use std::sync::ledger::{Blank, Ledger};
 pub struct Mirror {
     nodes: Entries,
     root: Option<NodeId>,
-    about: TreeData,
-    alloc: Global,
+    about: About,
 }
 
 impl Model for Mirror {
@@ -46,22 +46,20 @@ impl Mirror {
         Mirror {
             nodes: Entries::new(alloc),
             root: None,
-            about: TreeData::blank(alloc, tree),
-            alloc,
+            about: About::new(alloc, tree),
         }
     }
 
-    /// The same mirror. It shares the nodes, and copies the tree data alone.
+    /// The same mirror. It shares nodes and tree data, and takes no memory.
     pub fn share(&self) -> Result<Mirror, NoMemory>
         ensures { IfOk result (λ m. m ≡ self.now) }
     {
         let nodes = self.nodes.share()?;
-        let about = self.about.copy()?;
+        let about = self.about.share()?;
         Ok(Mirror {
             nodes,
             root: self.root,
             about,
-            alloc: self.alloc,
         })
     }
 
@@ -93,13 +91,13 @@ impl Mirror {
         ensures only { IfOk result (λ t. NamesOnly (update.now ∷ []) self.old self.new t) }
     {
         let mut steps: Steps<L> = Steps::start(blank);
-        let Ok(mut draft) = begin(&self.nodes, self.root, self.alloc) else {
+        let Ok(mut draft) = begin(&self.nodes, self.root) else {
             return Err(Refusal::NoMemory);
         };
-        let Ok(mut about) = self.about.copy() else {
+        let Ok(mut about) = self.about.share() else {
             return Err(Refusal::NoMemory);
         };
-        match take_one(&mut draft, &mut about, update, self.alloc, &mut steps) {
+        match take_one(&mut draft, &mut about, update, &mut steps) {
             Ok(()) => {}
             Err(refusal) => return Err(refusal),
         }
@@ -143,13 +141,13 @@ impl Mirror {
         ensures cost { IfOk result (λ t. steps.new ≤ steps.old + length t) }
         ensures only { IfOk result (λ t. NamesOnly bundle.now self.old self.new t) }
     {
-        let Ok(mut draft) = begin(&self.nodes, self.root, self.alloc) else {
+        let Ok(mut draft) = begin(&self.nodes, self.root) else {
             return Err(no_memory());
         };
-        let Ok(mut about) = self.about.copy() else {
+        let Ok(mut about) = self.about.share() else {
             return Err(no_memory());
         };
-        match take_all(&mut draft, &mut about, bundle.as_slice(), self.alloc, steps) {
+        match take_all(&mut draft, &mut about, bundle.as_slice(), steps) {
             Ok(()) => {}
             Err(refusal) => return Err(refusal),
         }
@@ -171,11 +169,11 @@ impl Mirror {
         ensures cost { IfOk result (λ t. steps.new ≤ steps.old + length t) }
         ensures only { IfOk result (λ t. NamesOnly bundle.now self.old self.new t) }
     {
-        let Ok(mut draft) = begin_anew(&self.nodes, self.root, self.alloc) else {
+        let Ok(mut draft) = begin_anew(&self.nodes, self.root) else {
             return Err(no_memory());
         };
-        let mut about = TreeData::blank(self.alloc, self.about.tree);
-        match take_all(&mut draft, &mut about, bundle.as_slice(), self.alloc, steps) {
+        let mut about = About::new(self.nodes.allocator(), self.about.get().tree);
+        match take_all(&mut draft, &mut about, bundle.as_slice(), steps) {
             Ok(()) => {}
             Err(refusal) => return Err(refusal),
         }
@@ -217,7 +215,7 @@ impl TreeView for Mirror {
     }
 
     fn tree_data(&self) -> &TreeData {
-        &self.about
+        self.about.get()
     }
 
     fn count(&self) -> usize {

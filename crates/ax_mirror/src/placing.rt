@@ -10,7 +10,6 @@ use crate::entries::{Entry, put};
 use ax_base::{Ids, NoMemory, NodeId};
 use ax_node::NodeData;
 use ax_pages::Steps;
-use std::alloc::Global;
 use std::collections::HashSet;
 use std::sync::ledger::Ledger;
 
@@ -20,7 +19,6 @@ pub fn put_pending<L: Ledger>(
     id: NodeId,
     above: Option<NodeId>,
     level: usize,
-    alloc: Global,
     steps: &mut Steps<L>,
 ) -> Result<(), NoMemory>
     ensures puts { OnOk result (PutsPending draft.old draft.new id above level) }
@@ -33,7 +31,7 @@ pub fn put_pending<L: Ledger>(
         above,
         level,
         pending: true,
-        node: NodeData::blank(alloc, id),
+        node: NodeData::blank(draft.nodes.allocator(), id),
     };
     put(&mut draft.nodes, id, entry, &mut draft.touched, steps)?;
     Ok(())
@@ -46,7 +44,6 @@ pub fn place<L: Ledger>(
     level: usize,
     ids: &Ids,
     old: &HashSet<NodeId>,
-    alloc: Global,
     steps: &mut Steps<L>,
 ) -> Result<Option<NodeId>, NoMemory>
     requires { first_repeated [] ids.now ≡ None }
@@ -63,7 +60,7 @@ pub fn place<L: Ledger>(
         if draft.nodes.read(*id).is_some() {
             return Ok(Some(*id));
         }
-        put_pending(draft, *id, Some(parent), level, alloc, steps)?;
+        put_pending(draft, *id, Some(parent), level, steps)?;
     }
     Ok(None)
 }

@@ -20,6 +20,7 @@ pub fn take_out<L: Ledger>(
     ensures accounts { OnOk result (Accounts no_id no_id draft.old draft.new) }
 {
     while let Some(id) = stack.pop() {
+        // Each id on the stack has an entry.
         let Some(entry) = draft.nodes.read(id) else {
             return Err(NoMemory);
         };

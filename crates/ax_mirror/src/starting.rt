@@ -11,14 +11,12 @@ use crate::placing::put_pending;
 use crate::removing::take_out;
 use ax_base::{Ids, NoMemory, NodeId};
 use ax_pages::Steps;
-use std::alloc::Global;
 use std::sync::ledger::Ledger;
 
 /// Takes out what stands below an id, and makes the id pending.
 pub fn clear_below<L: Ledger>(
     draft: &mut Draft,
     id: NodeId,
-    alloc: Global,
     steps: &mut Steps<L>,
 ) -> Result<(), NoMemory>
     ensures ok { OnOk result (Turns (λ w. cleared (Some id) w) draft.old draft.new) }
@@ -32,22 +30,23 @@ pub fn clear_below<L: Ledger>(
     };
     let above = entry.above;
     let level = entry.level;
-    let mut gone = Ids::new(alloc);
+    let mut gone = Ids::new(draft.nodes.allocator());
     gone.push_reversed(&entry.node.children)?;
     take_out(draft, &mut gone, steps)?;
-    put_pending(draft, id, above, level, alloc, steps)?;
+    put_pending(draft, id, above, level, steps)?;
     Ok(())
 }
 
 /// Adds all ids of the tree to the touched ones.
-pub fn touch_all(draft: &mut Draft, alloc: Global) -> Result<(), NoMemory>
+pub fn touch_all(draft: &mut Draft) -> Result<(), NoMemory>
     ensures { OnOk result (TouchesAll draft.old draft.new) }
 {
     let Some(root) = draft.root else {
         return Ok(());
     };
-    let mut stack = Ids::new(alloc);
+    let mut stack = Ids::new(draft.nodes.allocator());
     stack.push(root)?;
+    // Each id on the stack has an entry, and the walk ends long before the last round.
     for _round in 0..usize::MAX {
         let Some(id) = stack.pop() else {
             return Ok(());
@@ -65,7 +64,6 @@ pub fn touch_all(draft: &mut Draft, alloc: Global) -> Result<(), NoMemory>
 pub fn root_anew<L: Ledger>(
     draft: &mut Draft,
     root: NodeId,
-    alloc: Global,
     steps: &mut Steps<L>,
 ) -> Result<(), NoMemory>
     ensures ok { OnOk result (Turns (λ w. tree root None bare bare) draft.old draft.new) }
@@ -74,10 +72,10 @@ pub fn root_anew<L: Ledger>(
     ensures cost { OnOk result (steps.new + length draft.old.touched ≤ steps.old + length draft.new.touched) }
     ensures accounts { OnOk result (Accounts (is_id root) no_id draft.old draft.new) }
 {
-    touch_all(draft, alloc)?;
-    draft.nodes = Entries::new(alloc);
+    touch_all(draft)?;
+    draft.nodes = Entries::new(draft.nodes.allocator());
     draft.root = Some(root);
-    put_pending(draft, root, None, 1, alloc, steps)?;
+    put_pending(draft, root, None, 1, steps)?;
     Ok(())
 }
 
@@ -86,7 +84,6 @@ pub fn start<L: Ledger>(
     draft: &mut Draft,
     root: Option<NodeId>,
     clear: Option<NodeId>,
-    alloc: Global,
     steps: &mut Steps<L>,
 ) -> Result<(), NoMemory>
     ensures ok { OnOk result (Turns (λ w. started root clear w) draft.old draft.new) }
@@ -97,14 +94,14 @@ pub fn start<L: Ledger>(
 {
     match anew(draft.root, root) {
         Some(root) => {
-            root_anew(draft, root, alloc, steps)?;
+            root_anew(draft, root, steps)?;
             return Ok(());
         }
         None => {}
     }
     match clear {
         Some(id) => {
-            clear_below(draft, id, alloc, steps)?;
+            clear_below(draft, id, steps)?;
             Ok(())
         }
         None => Ok(()),

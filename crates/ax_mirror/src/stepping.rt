@@ -69,7 +69,6 @@ fn change_of(entry: &Entry, children: &Ids, alloc: Global) -> Result<Change, Ref
 pub fn take_node<L: Ledger>(
     draft: &mut Draft,
     node: &NodeData,
-    alloc: Global,
     steps: &mut Steps<L>,
 ) -> Result<(), Refusal>
     ensures ok { OnOk result (Accepts (λ w. taken w node.now) draft.old draft.new) }
@@ -82,7 +81,7 @@ pub fn take_node<L: Ledger>(
     let Some(entry) = draft.nodes.read(node.id) else {
         return Err(Refusal::NotInTree(node.id));
     };
-    let mut change = match change_of(entry, &node.children, alloc) {
+    let mut change = match change_of(entry, &node.children, draft.nodes.allocator()) {
         Ok(change) => change,
         Err(refusal) => return Err(refusal),
     };
@@ -96,7 +95,6 @@ pub fn take_node<L: Ledger>(
         change.inner,
         &node.children,
         &change.old,
-        alloc,
         steps,
     ) {
         Ok(None) => {}
@@ -122,7 +120,6 @@ pub fn take_node<L: Ledger>(
 pub fn take_nodes<L: Ledger>(
     draft: &mut Draft,
     nodes: &[NodeData],
-    alloc: Global,
     steps: &mut Steps<L>,
 ) -> Result<(), Refusal>
     ensures ok { OnOk result (Accepts (λ w. all_taken w nodes.now) draft.old draft.new) }
@@ -133,7 +130,7 @@ pub fn take_nodes<L: Ledger>(
     ensures accounts { OnOk result (Accounts (list_names nodes.now) (lists_id nodes.now) draft.old draft.new) }
 {
     for node in nodes {
-        match take_node(draft, node, alloc, steps) {
+        match take_node(draft, node, steps) {
             Ok(()) => {}
             Err(refusal) => return Err(refusal),
         }

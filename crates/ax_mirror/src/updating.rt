@@ -1,5 +1,4 @@
 ghost use Rattle.std.specs.Prelude.{◌≡◌, ◌≤◌, ◌+◌, length, OnOk, IfErr};
-ghost use Rattle.ax_tree.specs.Updates.{told};
 ghost use Rattle.ax_mirror.specs.Steps.{Updates, UpdateRefused};
 ghost use Rattle.ax_mirror.specs.Begins.{TrackedTrees, missing_in};
 ghost use Rattle.ax_mirror.specs.Accounts.{Accounts, names, lists_id};
@@ -10,17 +9,14 @@ use crate::finishing::finish;
 use crate::starting::start;
 use crate::stepping::take_nodes;
 use ax_base::{NoMemory, NodeId};
-use ax_node::TreeData;
 use ax_pages::Steps;
 use ax_tree::{Refusal, TreeUpdate};
-use std::alloc::Global;
 use std::sync::ledger::Ledger;
 
 /// Applies an update without its tree data. After a refusal the draft is of no use.
 pub fn take_update<L: Ledger>(
     draft: &mut Draft,
     update: &TreeUpdate,
-    alloc: Global,
     steps: &mut Steps<L>,
 ) -> Result<(), Refusal>
     ensures ok { OnOk result (Updates draft.old draft.new update.now) }
@@ -34,11 +30,11 @@ pub fn take_update<L: Ledger>(
         None => {}
         Some(id) => return Err(Refusal::BadClear(id)),
     }
-    match start(draft, update.root, update.clear, alloc, steps) {
+    match start(draft, update.root, update.clear, steps) {
         Ok(()) => {}
         Err(_) => return Err(Refusal::NoMemory),
     }
-    match take_nodes(draft, update.nodes.as_slice(), alloc, steps) {
+    match take_nodes(draft, update.nodes.as_slice(), steps) {
         Ok(()) => {}
         Err(refusal) => return Err(refusal),
     }
@@ -62,16 +58,4 @@ fn missing(nodes: &Entries, clear: Option<NodeId>) -> Option<NodeId>
         }
         None => None,
     }
-}
-
-/// Puts new tree data in the place of the old ones, but for the tree id.
-pub fn tell(about: &mut TreeData, news: &Option<TreeData>) -> Result<(), NoMemory>
-    ensures { OnOk result (about.new ≡ told news.now about.old) }
-{
-    if let Some(news) = news {
-        let tree = about.tree;
-        *about = news.copy()?;
-        about.tree = tree;
-    }
-    Ok(())
 }

@@ -11,19 +11,19 @@ use Rattle.ax_mirror.proofs.Bundles.{anew_holds, anew_is, anew_names, anew_only,
 use Rattle.ax_mirror.proofs.mirrored.Mirror.apply_anew.Goals as goal
 
 pub invariant_of-self : goal.invariant_of-self
-invariant_of-self g c = anew_holds c.self.inside.nodes c.self.inside.root c.self.inside.about c.self.invariant c.in-Ok.draft c.take_all.new.draft c.blank-about.result c.take_all.new.about c.in-Ok.ensures (λ t. applied_all c.args.bundle.now t) (subst (λ (us : List TreeUpdate). Applies (λ t. applied_all us t) c.in-Ok.draft c.blank-about.result c.take_all.new.draft c.take_all.new.about) c.as_slice.ensures c.in-Ok-take_all.ensures.ok)
+invariant_of-self g c = anew_holds c.self.inside.nodes c.self.inside.root c.self.inside.about c.self.invariant c.in-Ok.draft c.take_all.new.draft c.new-about.result c.take_all.new.about c.in-Ok.ensures (λ t. applied_all c.args.bundle.now t) (subst (λ (us : List TreeUpdate). Applies (λ t. applied_all us t) c.in-Ok.draft c.new-about.result c.take_all.new.draft c.take_all.new.about) c.as_slice.ensures c.in-Ok-take_all.ensures.ok)
 
 pub returns-clause-ok : goal.returns-clause-ok
-returns-clause-ok g c = ap (λ (t : Tree). applied_all c.args.bundle.now t) (sym (ap (λ (a : TreeData). with_about a bare) c.blank-about.ensures ∙ ap (λ (t : Tree). empty t.about.tree) c.self.view_is)) ∙ anew_is c.self.inside.nodes c.self.inside.root c.self.inside.about c.self.invariant c.in-Ok.draft c.take_all.new.draft c.blank-about.result c.take_all.new.about c.in-Ok.ensures (λ t. applied_all c.args.bundle.now t) (subst (λ (us : List TreeUpdate). Applies (λ t. applied_all us t) c.in-Ok.draft c.blank-about.result c.take_all.new.draft c.take_all.new.about) c.as_slice.ensures c.in-Ok-take_all.ensures.ok)
+returns-clause-ok g c = ap (λ (t : Tree). applied_all c.args.bundle.now t) (sym (ap (λ (a : TreeData). with_about a bare) c.new-about.ensures ∙ ap (λ (a : TreeData). empty a.tree) c.get.ensures ∙ ap (λ (t : Tree). empty t.about.tree) c.self.view_is)) ∙ anew_is c.self.inside.nodes c.self.inside.root c.self.inside.about c.self.invariant c.in-Ok.draft c.take_all.new.draft c.new-about.result c.take_all.new.about c.in-Ok.ensures (λ t. applied_all c.args.bundle.now t) (subst (λ (us : List TreeUpdate). Applies (λ t. applied_all us t) c.in-Ok.draft c.new-about.result c.take_all.new.draft c.take_all.new.about) c.as_slice.ensures c.in-Ok-take_all.ensures.ok)
 
 pub returns-clause-named : goal.returns-clause-named
 returns-clause-named g c = subst (λ (t : Tree). NamesChanges t (with_about c.take_all.new.about (shown c.take_all.new.draft.nodes c.take_all.new.draft.root)) c.take_all.new.draft.touched) c.self.view_is
-    (anew_names c.self.inside.nodes c.self.inside.root c.self.inside.about c.self.invariant c.in-Ok.draft c.take_all.new.draft c.blank-about.result c.take_all.new.about c.in-Ok.ensures (λ t. applied_all c.args.bundle.now t) (subst (λ (us : List TreeUpdate). Applies (λ t. applied_all us t) c.in-Ok.draft c.blank-about.result c.take_all.new.draft c.take_all.new.about) c.as_slice.ensures c.in-Ok-take_all.ensures.ok) c.in-Ok-take_all.ensures.tracked)
+    (anew_names c.self.inside.nodes c.self.inside.root c.self.inside.about c.self.invariant c.in-Ok.draft c.take_all.new.draft c.new-about.result c.take_all.new.about c.in-Ok.ensures (λ t. applied_all c.args.bundle.now t) (subst (λ (us : List TreeUpdate). Applies (λ t. applied_all us t) c.in-Ok.draft c.new-about.result c.take_all.new.draft c.take_all.new.about) c.as_slice.ensures c.in-Ok-take_all.ensures.ok) c.in-Ok-take_all.ensures.tracked)
 
 pub returns-in-Err-clause-err : goal.returns-in-Err-clause-err
-returns-in-Err-clause-err g c = subst (λ (t : Tree). BrokenAs c.in-Err.refusal (applied_all c.args.bundle.now t)) (ap (λ (a : TreeData). with_about a bare) c.blank-about.ensures ∙ ap (λ (t : Tree). empty t.about.tree) c.self.view_is)
-    (anew_broken c.self.inside.nodes c.self.inside.root c.self.inside.about c.self.invariant c.in-Ok.draft c.take_all.new.draft c.blank-about.result c.take_all.new.about c.in-Ok.ensures (λ t. applied_all c.args.bundle.now t) c.in-Err.refusal (subst (λ (us : List TreeUpdate). IsBroken (λ t. applied_all us t) c.in-Ok.draft c.blank-about.result c.in-Err.refusal) c.as_slice.ensures c.in-Err.ensures.err))
+returns-in-Err-clause-err g c = subst (λ (t : Tree). BrokenAs c.in-Err.refusal (applied_all c.args.bundle.now t)) (ap (λ (a : TreeData). with_about a bare) c.new-about.ensures ∙ ap (λ (a : TreeData). empty a.tree) c.get.ensures ∙ ap (λ (t : Tree). empty t.about.tree) c.self.view_is)
+    (anew_broken c.self.inside.nodes c.self.inside.root c.self.inside.about c.self.invariant c.in-Ok.draft c.take_all.new.draft c.new-about.result c.take_all.new.about c.in-Ok.ensures (λ t. applied_all c.args.bundle.now t) c.in-Err.refusal (subst (λ (us : List TreeUpdate). IsBroken (λ t. applied_all us t) c.in-Ok.draft c.new-about.result c.in-Err.refusal) c.as_slice.ensures c.in-Err.ensures.err))
 
 pub returns-clause-only : goal.returns-clause-only
 returns-clause-only g c = subst (λ (t : Tree). NamesOnly c.args.bundle.now t (with_about c.take_all.new.about (shown c.take_all.new.draft.nodes c.take_all.new.draft.root)) c.take_all.new.draft.touched) c.self.view_is
-    (anew_only c.self.inside.nodes c.self.inside.root c.self.inside.about c.self.invariant c.in-Ok.draft c.take_all.new.draft c.blank-about.result c.take_all.new.about c.in-Ok.ensures (λ t. applied_all c.args.bundle.now t) (subst (λ (us : List TreeUpdate). Applies (λ t. applied_all us t) c.in-Ok.draft c.blank-about.result c.take_all.new.draft c.take_all.new.about) c.as_slice.ensures c.in-Ok-take_all.ensures.ok) c.args.bundle.now (subst (λ (us : List TreeUpdate). TouchesOnly us c.in-Ok.draft c.take_all.new.draft) c.as_slice.ensures c.in-Ok-take_all.ensures.only))
+    (anew_only c.self.inside.nodes c.self.inside.root c.self.inside.about c.self.invariant c.in-Ok.draft c.take_all.new.draft c.new-about.result c.take_all.new.about c.in-Ok.ensures (λ t. applied_all c.args.bundle.now t) (subst (λ (us : List TreeUpdate). Applies (λ t. applied_all us t) c.in-Ok.draft c.new-about.result c.take_all.new.draft c.take_all.new.about) c.as_slice.ensures c.in-Ok-take_all.ensures.ok) c.args.bundle.now (subst (λ (us : List TreeUpdate). TouchesOnly us c.in-Ok.draft c.take_all.new.draft) c.as_slice.ensures c.in-Ok-take_all.ensures.only))

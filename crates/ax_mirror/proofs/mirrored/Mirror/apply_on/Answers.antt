@@ -11,18 +11,18 @@ use Rattle.ax_mirror.proofs.Bundles.{mirror_holds, mirror_is, mirror_names, mirr
 use Rattle.ax_mirror.proofs.mirrored.Mirror.apply_on.Goals as goal
 
 pub invariant_of-self : goal.invariant_of-self
-invariant_of-self g c = mirror_holds c.self.inside.nodes c.self.inside.root c.in-Ok-copy.about c.self.invariant c.in-Ok.draft c.take_all.new.draft c.take_all.new.about (λ t. applied_all c.args.bundle.now t) c.in-Ok.ensures.0 c.in-Ok.ensures.1 (subst (λ (us : List TreeUpdate). Applies (λ t. applied_all us t) c.in-Ok.draft c.in-Ok-copy.about c.take_all.new.draft c.take_all.new.about) c.as_slice.ensures c.in-Ok-take_all.ensures.ok)
+invariant_of-self g c = mirror_holds c.self.inside.nodes c.self.inside.root c.in-Ok-share.about c.self.invariant c.in-Ok.draft c.take_all.new.draft c.take_all.new.about (λ t. applied_all c.args.bundle.now t) c.in-Ok.ensures.0 c.in-Ok.ensures.1 (subst (λ (us : List TreeUpdate). Applies (λ t. applied_all us t) c.in-Ok.draft c.in-Ok-share.about c.take_all.new.draft c.take_all.new.about) c.as_slice.ensures c.in-Ok-take_all.ensures.ok)
 
 pub returns-clause-ok : goal.returns-clause-ok
-returns-clause-ok g c = ap (λ (t : Tree). applied_all c.args.bundle.now t) (sym (ap (λ (a : TreeData). with_about a (shown c.self.inside.nodes c.self.inside.root)) c.in-Ok-copy.ensures ∙ c.self.view_is)) ∙ mirror_is c.self.inside.nodes c.self.inside.root c.in-Ok-copy.about c.self.invariant c.in-Ok.draft c.take_all.new.draft c.take_all.new.about (λ t. applied_all c.args.bundle.now t) c.in-Ok.ensures.0 c.in-Ok.ensures.1 (subst (λ (us : List TreeUpdate). Applies (λ t. applied_all us t) c.in-Ok.draft c.in-Ok-copy.about c.take_all.new.draft c.take_all.new.about) c.as_slice.ensures c.in-Ok-take_all.ensures.ok)
+returns-clause-ok g c = ap (λ (t : Tree). applied_all c.args.bundle.now t) (sym (ap (λ (a : TreeData). with_about a (shown c.self.inside.nodes c.self.inside.root)) c.in-Ok-share.ensures ∙ c.self.view_is)) ∙ mirror_is c.self.inside.nodes c.self.inside.root c.in-Ok-share.about c.self.invariant c.in-Ok.draft c.take_all.new.draft c.take_all.new.about (λ t. applied_all c.args.bundle.now t) c.in-Ok.ensures.0 c.in-Ok.ensures.1 (subst (λ (us : List TreeUpdate). Applies (λ t. applied_all us t) c.in-Ok.draft c.in-Ok-share.about c.take_all.new.draft c.take_all.new.about) c.as_slice.ensures c.in-Ok-take_all.ensures.ok)
 
 pub returns-clause-named : goal.returns-clause-named
-returns-clause-named g c = subst (λ (t : Tree). NamesChanges t (with_about c.take_all.new.about (shown c.take_all.new.draft.nodes c.take_all.new.draft.root)) c.take_all.new.draft.touched) (ap (λ (a : TreeData). with_about a (shown c.self.inside.nodes c.self.inside.root)) c.in-Ok-copy.ensures ∙ c.self.view_is)
-    (mirror_names c.self.inside.nodes c.self.inside.root c.in-Ok-copy.about c.self.invariant c.in-Ok.draft c.take_all.new.draft c.take_all.new.about (λ t. applied_all c.args.bundle.now t) c.in-Ok.ensures.0 c.in-Ok.ensures.1 (subst (λ (us : List TreeUpdate). Applies (λ t. applied_all us t) c.in-Ok.draft c.in-Ok-copy.about c.take_all.new.draft c.take_all.new.about) c.as_slice.ensures c.in-Ok-take_all.ensures.ok) c.in-Ok-take_all.ensures.tracked)
+returns-clause-named g c = subst (λ (t : Tree). NamesChanges t (with_about c.take_all.new.about (shown c.take_all.new.draft.nodes c.take_all.new.draft.root)) c.take_all.new.draft.touched) (ap (λ (a : TreeData). with_about a (shown c.self.inside.nodes c.self.inside.root)) c.in-Ok-share.ensures ∙ c.self.view_is)
+    (mirror_names c.self.inside.nodes c.self.inside.root c.in-Ok-share.about c.self.invariant c.in-Ok.draft c.take_all.new.draft c.take_all.new.about (λ t. applied_all c.args.bundle.now t) c.in-Ok.ensures.0 c.in-Ok.ensures.1 (subst (λ (us : List TreeUpdate). Applies (λ t. applied_all us t) c.in-Ok.draft c.in-Ok-share.about c.take_all.new.draft c.take_all.new.about) c.as_slice.ensures c.in-Ok-take_all.ensures.ok) c.in-Ok-take_all.ensures.tracked)
 
 pub returns-in-Err-clause-err : goal.returns-in-Err-clause-err
-returns-in-Err-clause-err g c = subst (λ (t : Tree). BrokenAs c.in-Err.refusal (applied_all c.args.bundle.now t)) (ap (λ (a : TreeData). with_about a (shown c.self.inside.nodes c.self.inside.root)) c.in-Ok-copy.ensures ∙ c.self.view_is)
-    (mirror_broken c.self.inside.nodes c.self.inside.root c.in-Ok-copy.about c.self.invariant c.in-Ok.draft c.take_all.new.draft c.take_all.new.about (λ t. applied_all c.args.bundle.now t) c.in-Err.refusal c.in-Ok.ensures.0 c.in-Ok.ensures.1 (subst (λ (us : List TreeUpdate). IsBroken (λ t. applied_all us t) c.in-Ok.draft c.in-Ok-copy.about c.in-Err.refusal) c.as_slice.ensures c.in-Err.ensures.err))
+returns-in-Err-clause-err g c = subst (λ (t : Tree). BrokenAs c.in-Err.refusal (applied_all c.args.bundle.now t)) (ap (λ (a : TreeData). with_about a (shown c.self.inside.nodes c.self.inside.root)) c.in-Ok-share.ensures ∙ c.self.view_is)
+    (mirror_broken c.self.inside.nodes c.self.inside.root c.in-Ok-share.about c.self.invariant c.in-Ok.draft c.take_all.new.draft c.take_all.new.about (λ t. applied_all c.args.bundle.now t) c.in-Err.refusal c.in-Ok.ensures.0 c.in-Ok.ensures.1 (subst (λ (us : List TreeUpdate). IsBroken (λ t. applied_all us t) c.in-Ok.draft c.in-Ok-share.about c.in-Err.refusal) c.as_slice.ensures c.in-Err.ensures.err))
 
 pub returns-clause-cost : goal.returns-clause-cost
 returns-clause-cost g c =
@@ -30,5 +30,5 @@ returns-clause-cost g c =
     omega (arith, c.in-Ok-take_all.ensures.cost)
 
 pub returns-clause-only : goal.returns-clause-only
-returns-clause-only g c = subst (λ (t : Tree). NamesOnly c.args.bundle.now t (with_about c.take_all.new.about (shown c.take_all.new.draft.nodes c.take_all.new.draft.root)) c.take_all.new.draft.touched) (ap (λ (a : TreeData). with_about a (shown c.self.inside.nodes c.self.inside.root)) c.in-Ok-copy.ensures ∙ c.self.view_is)
-    (mirror_only c.self.inside.nodes c.self.inside.root c.in-Ok-copy.about c.self.invariant c.in-Ok.draft c.take_all.new.draft c.take_all.new.about (λ t. applied_all c.args.bundle.now t) c.in-Ok.ensures.0 c.in-Ok.ensures.1 (subst (λ (us : List TreeUpdate). Applies (λ t. applied_all us t) c.in-Ok.draft c.in-Ok-copy.about c.take_all.new.draft c.take_all.new.about) c.as_slice.ensures c.in-Ok-take_all.ensures.ok) c.args.bundle.now (subst (λ (us : List TreeUpdate). TouchesOnly us c.in-Ok.draft c.take_all.new.draft) c.as_slice.ensures c.in-Ok-take_all.ensures.only) c.in-Ok.ensures.2)
+returns-clause-only g c = subst (λ (t : Tree). NamesOnly c.args.bundle.now t (with_about c.take_all.new.about (shown c.take_all.new.draft.nodes c.take_all.new.draft.root)) c.take_all.new.draft.touched) (ap (λ (a : TreeData). with_about a (shown c.self.inside.nodes c.self.inside.root)) c.in-Ok-share.ensures ∙ c.self.view_is)
+    (mirror_only c.self.inside.nodes c.self.inside.root c.in-Ok-share.about c.self.invariant c.in-Ok.draft c.take_all.new.draft c.take_all.new.about (λ t. applied_all c.args.bundle.now t) c.in-Ok.ensures.0 c.in-Ok.ensures.1 (subst (λ (us : List TreeUpdate). Applies (λ t. applied_all us t) c.in-Ok.draft c.in-Ok-share.about c.take_all.new.draft c.take_all.new.about) c.as_slice.ensures c.in-Ok-take_all.ensures.ok) c.args.bundle.now (subst (λ (us : List TreeUpdate). TouchesOnly us c.in-Ok.draft c.take_all.new.draft) c.as_slice.ensures c.in-Ok-take_all.ensures.only) c.in-Ok.ensures.2)
