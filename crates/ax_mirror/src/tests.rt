@@ -1,6 +1,6 @@
 ghost use Rattle.std.specs.Prelude.{◌≡◌, ◌<◌};
 
-use crate::{Mirror, Touched};
+use crate::Mirror;
 use ax_base::{Ids, NodeId, TreeId};
 use ax_node::NodeData;
 use ax_pages::Steps;
@@ -68,43 +68,70 @@ fn mirror(alloc: Global) -> Result<Mirror, Fail> {
     }
 }
 
-fn refusal_of(mirror: &mut Mirror, update: &TreeUpdate) -> Option<Refusal> {
-    match mirror.unserialize(update) {
-        Ok(_) => None,
-        Err(refusal) => Some(refusal),
+fn is_refused(mirror: &mut Mirror, update: TreeUpdate, why: Refusal) -> bool {
+    match mirror.unserialize(&update) {
+        Ok(_) => false,
+        Err(refusal) => refusal == why,
     }
 }
 
+fn is_node_refused(
+    alloc: Global,
+    mirror: &mut Mirror,
+    n: u32,
+    children: &[u32],
+    why: Refusal,
+) -> Result<bool, Fail> {
+    let update = one(alloc, n, children)?;
+    Ok(is_refused(mirror, update, why))
+}
+
 // How many ids an update touches, and 0 where it is refused.
-fn touched_by(mirror: &mut Mirror, update: &TreeUpdate) -> usize {
-    match mirror.unserialize(update) {
+fn touched_by(mirror: &mut Mirror, update: TreeUpdate) -> usize {
+    match mirror.unserialize(&update) {
         Ok(touched) => touched.as_slice().len(),
         Err(_) => 0,
     }
 }
 
 #[test]
-fn each_refusal(rt: HostRuntime) -> Result<(), Fail> {
+fn a_child_is_refused(rt: HostRuntime) -> Result<(), Fail> {
     let alloc = rt.alloc();
     let mut mirror = mirror(alloc)?;
-    let clears = update(9, 0, Nodes::new(alloc));
-    let pends = one(alloc, 1, &[2, 3, 9, 8])?;
-    let deep = chain(alloc, 257)?;
-    assert!(rt; refusal_of(&mut mirror, &clears) == Some(Refusal::BadClear(id(9)?)));
-    assert!(rt; refusal_of(&mut mirror, &one(alloc, 9, &[])?) == Some(Refusal::NotInTree(id(9)?)));
-    assert!(rt;
-        refusal_of(&mut mirror, &one(alloc, 1, &[3, 2, 3])?)
-            == Some(Refusal::DuplicateChild(id(3)?))
-    );
-    assert!(rt;
-        refusal_of(&mut mirror, &one(alloc, 3, &[4])?) == Some(Refusal::Reparented(id(4)?))
-    );
-    assert!(rt; refusal_of(&mut mirror, &pends) == Some(Refusal::Pending(id(8)?)));
-    assert!(rt; refusal_of(&mut mirror, &deep) == Some(Refusal::TooDeep(257)));
+    let twice = Refusal::DuplicateChild(id(3)?);
+    let elsewhere = Refusal::Reparented(id(4)?);
+    let pending = Refusal::Pending(id(8)?);
+    assert!(rt; is_node_refused(alloc, &mut mirror, 1, &[3, 2, 3], twice)?);
+    assert!(rt; is_node_refused(alloc, &mut mirror, 3, &[4], elsewhere)?);
+    assert!(rt; is_node_refused(alloc, &mut mirror, 1, &[2, 3, 9, 8], pending)?);
     assert!(rt; mirror.count() == 4);
-    assert!(rt; mirror.parent(id(4)?) == NodeId::new(2));
-    assert!(rt; touched_by(&mut mirror, &chain(alloc, 256)?) == 256);
     Ok(())
+}
+
+#[test]
+fn an_id_or_a_chain_is_refused(rt: HostRuntime) -> Result<(), Fail> {
+    let alloc = rt.alloc();
+    let mut mirror = mirror(alloc)?;
+    let absent = id(9)?;
+    assert!(rt;
+        is_refused(
+            &mut mirror,
+            update(9, 0, Nodes::new(alloc)),
+            Refusal::BadClear(absent)
+        )
+    );
+    assert!(rt; is_node_refused(alloc, &mut mirror, 9, &[], Refusal::NotInTree(absent))?);
+    assert!(rt; is_refused(&mut mirror, chain(alloc, 257)?, Refusal::TooDeep(257)));
+    assert!(rt; touched_by(&mut mirror, chain(alloc, 256)?) == 256);
+    Ok(())
+}
+
+// 3 goes first, 2 goes with 4, and 5 is new.
+fn three(alloc: Global) -> Result<TreeUpdate, Fail> {
+    let mut nodes = Nodes::new(alloc);
+    nodes.push(node(alloc, 1, &[3, 5])?)?;
+    nodes.push(node(alloc, 5, &[])?)?;
+    Ok(update(0, 0, nodes))
 }
 
 #[test]
@@ -112,53 +139,60 @@ fn an_update_orders_drops_and_makes(rt: HostRuntime) -> Result<(), Fail> {
     let alloc = rt.alloc();
     let mut mirror = mirror(alloc)?;
     let share = mirror.share()?;
-    let mut nodes = Nodes::new(alloc);
-    nodes.push(node(alloc, 1, &[3, 5])?)?;
-    nodes.push(node(alloc, 5, &[])?)?;
-    assert!(rt; touched_by(&mut mirror, &update(0, 0, nodes)) == 4);
+    let four = id(4)?;
+    assert!(rt; touched_by(&mut mirror, three(alloc)?) == 4);
     assert!(rt; mirror.count() == 3);
-    assert!(rt; mirror.node(id(4)?).is_none());
-    assert!(rt; mirror.parent(id(5)?) == NodeId::new(1));
-    assert!(rt; share.count() == 4);
-    assert!(rt; share.parent(id(4)?) == NodeId::new(2));
+    assert!(rt; mirror.node(four).is_none());
+    assert!(rt; share.parent(four) == NodeId::new(2));
     Ok(())
 }
 
-// The counts of nodes and of touched ids, or where and why the bundle was refused.
+// How many ids the bundle touches, or where and why it was refused.
 fn applied<L: Ledger>(
     mirror: &mut Mirror,
-    bundle: &Bundle,
+    bundle: Bundle,
     fresh: bool,
     blank: Blank,
-) -> Result<(usize, usize), BundleErr>
+) -> Result<usize, BundleErr>
     requires name { blank.name ≡ L.name }
     requires parts { blank.parts ≡ L.parts }
     requires some { 0 < L.parts }
 {
     let mut steps: Steps<L> = Steps::start(blank);
-    let touched: Touched = mirror.apply(bundle, fresh, &mut steps)?;
-    Ok((mirror.count(), touched.as_slice().len()))
+    match mirror.apply(&bundle, fresh, &mut steps) {
+        Ok(touched) => Ok(touched.as_slice().len()),
+        Err(refusal) => Err(refusal),
+    }
+}
+
+// The second update lists 4, which the first one took out.
+fn broken(alloc: Global) -> Result<Bundle, Fail> {
+    let mut bundle = Bundle::new(alloc);
+    bundle.push(one(alloc, 2, &[])?)?;
+    bundle.push(one(alloc, 4, &[])?)?;
+    bundle.push(one(alloc, 3, &[])?)?;
+    Ok(bundle)
+}
+
+fn fresh(alloc: Global) -> Result<Bundle, Fail> {
+    let mut bundle = Bundle::new(alloc);
+    bundle.push(chain(alloc, 2)?)?;
+    Ok(bundle)
 }
 
 #[test]
 fn a_refused_bundle_leaves_all(rt: HostRuntime) -> Result<(), Fail> {
     let alloc = rt.alloc();
     let mut mirror = mirror(alloc)?;
-    let mut bundle = Bundle::new(alloc);
-    bundle.push(one(alloc, 2, &[])?)?;
-    bundle.push(one(alloc, 4, &[])?)?;
-    bundle.push(one(alloc, 3, &[])?)?;
     let refused = BundleErr {
         at: 1,
         why: Refusal::NotInTree(id(4)?),
     };
-    let answer = applied::<Brand>(&mut mirror, &bundle, false, Blank::new(1));
+    let answer = applied::<Brand>(&mut mirror, broken(alloc)?, false, Blank::new(1));
     assert!(rt; answer == Err(refused));
     assert!(rt; mirror.count() == 4);
-    let mut fresh = Bundle::new(alloc);
-    fresh.push(chain(alloc, 2)?)?;
-    let answer = applied::<Brand>(&mut mirror, &fresh, true, Blank::new(1));
-    assert!(rt; answer == Ok((2, 4)));
-    assert!(rt; mirror.node(id(3)?).is_none());
+    let answer = applied::<Brand>(&mut mirror, fresh(alloc)?, true, Blank::new(1));
+    assert!(rt; answer == Ok(4));
+    assert!(rt; mirror.count() == 2);
     Ok(())
 }
