@@ -131,10 +131,19 @@ impl<T: Drop> Table<T> {
             Err(_) => return Err(NoMemory),
         };
         match &mut self.pages {
-            Some(pages) => return put_in_own(pages, id.get(), value, self.alloc),
-            None => {}
+            Some(pages) => put_in_own(pages, id.get(), value, self.alloc),
+            None => {
+                let mut pages = HashMap::new(self.alloc);
+                put_in_own_pages(&mut pages, id.get(), value, self.alloc)?;
+                match Arc::new(self.alloc, pages) {
+                    Ok(pages) => {
+                        self.pages = Some(pages);
+                        Ok(())
+                    }
+                    Err(_) => Err(NoMemory),
+                }
+            }
         }
-        Err(NoMemory)
     }
 
     /// Takes no step. It answers want of memory where the page has other owners.

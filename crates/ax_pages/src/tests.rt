@@ -79,7 +79,7 @@ fn erased<L: Ledger>(alloc: Global, blank: Blank) -> Result<(usize, usize), Fail
 {
     let mut steps: Steps<L> = Steps::start(blank);
     let mut values: Paged<u32> = Paged::new(alloc);
-    values.write(id(1)?, 10, &mut steps)?;
+    values.write_own(id(1)?, 10)?;
     values.write(id(65)?, 11, &mut steps)?;
     values.write_own(id(65)?, 13)?;
     values.erase_own(id(65)?)?;
