@@ -1,20 +1,10 @@
 -- What the desks are asked, with which condition, and what their counts say.
-use Rattle.std.specs.Prelude.{◌≡◌, ◌+◌, ◌-◌, ◌^◌, ◌≤◌, ℕ, min, []}
-use Rattle.ax_tree.specs.declared.edit.Edit.{Edit}
-use Rattle.ax_tree.specs.declared.edit.Edit.TheVariants as edits
+use Rattle.std.specs.Prelude.{◌≡◌, ◌+◌, ◌-◌, ◌^◌, ◌≤◌, ℕ, min}
+use Rattle.ax_tree.specs.Edits.{HasLeaf}
 use Rattle.ax_ask.specs.declared.op.FrameOp.{FrameOp}
 use Rattle.ax_ask.specs.declared.op.FrameOp.TheVariants as frames
 use Rattle.ax_ask.specs.declared.op.BrowserOp.{BrowserOp}
 use Rattle.ax_ask.specs.declared.op.BrowserOp.TheVariants as browsers
-
--- the node data in an edit have no children
-abbrev pub HasLeaf : Edit → Type 0
-HasLeaf (edits.Root node) = node.children ≡ []
-HasLeaf (edits.Insert parent index node) = node.children ≡ []
-HasLeaf (edits.Remove node) = Unit {0}
-HasLeaf (edits.Move node parent index) = Unit {0}
-HasLeaf (edits.Set what) = Unit {0}
-HasLeaf (edits.Tree what) = Unit {0}
 
 abbrev pub IsLeafOp : FrameOp → Type 0
 IsLeafOp (frames.Edit e) = HasLeaf e

@@ -5,7 +5,7 @@ pub enum Kind {
     Text,
     /// An `i32`.
     Int,
-    /// A flag, which has no other value than true.
+    /// True or false.
     Flag,
     /// The id of a node of the same tree.
     Node,

@@ -1,5 +1,5 @@
 -- What a source tree is seen as, and what its calls make of it.
-use Rattle.std.specs.Prelude.{ℕ, ◌≡◌, Bool, true, false, List, [], refl}
+use Rattle.std.specs.Prelude.{ℕ, ◌≡◌, Bool, true, false, List, refl}
 use Rattle.std.specs.Coded.{Coded, code_by, coded×, coded_ℕ, coded_bool, coded_list}
 use Rattle.ax_node.specs.Look.{Look, coded_look}
 use Rattle.ax_node.specs.declared.tree_data.TreeData.{TreeData}
@@ -9,7 +9,6 @@ use Rattle.ax_trees.specs.Code.{coded_trees}
 use Rattle.ax_tree.specs.Tree.{Tree}
 use Rattle.ax_tree.specs.Edits.{edited, marks_after, flag_after}
 use Rattle.ax_tree.specs.declared.edit.Edit.{Edit}
-use Rattle.ax_tree.specs.declared.edit.Edit.TheVariants as edits
 use Rattle.ax_tree.specs.declared.edit.MarkErr.{MarkErr}
 use Rattle.ax_tree.specs.declared.edit.MarkErr.TheVariants.{UnknownNode, NoMemory}
 
@@ -28,15 +27,6 @@ coded_source =
 -- the source after an accepted edit
 abbrev pub after_edit : Edit → Source → Source
 after_edit e s = record { tree = edited e s.tree; marks = marks_after e s.tree s.marks; changed = flag_after e s.changed }
-
--- the node data in an edit have no children
-abbrev pub HasLeaf : Edit → Type 0
-HasLeaf (edits.Root node) = node.children ≡ []
-HasLeaf (edits.Insert parent index node) = node.children ≡ []
-HasLeaf (edits.Remove node) = Unit {0}
-HasLeaf (edits.Move node parent index) = Unit {0}
-HasLeaf (edits.Set what) = Unit {0}
-HasLeaf (edits.Tree what) = Unit {0}
 
 -- what a refused mark of z may answer: that z isn't there, where it isn't, and else that there is no memory
 abbrev pub IsMarkRefusal : {X : Type 0} → Trees X → ℕ → MarkErr → Type 0

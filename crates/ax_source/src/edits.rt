@@ -3,10 +3,10 @@ ghost use Rattle.ax_node.specs.Look.{look_of};
 ghost use Rattle.ax_trees.specs.Trees.{has};
 ghost use Rattle.ax_trees.specs.Nodes.{pre};
 ghost use Rattle.ax_tree.specs.Tree.{node};
-ghost use Rattle.ax_tree.specs.Edits.{look_set, refusal, IsRefusal};
+ghost use Rattle.ax_tree.specs.Edits.{HasLeaf, look_set, refusal, IsRefusal};
 ghost use Rattle.ax_tree.specs.declared.edit.Edit.TheVariants as edits;
 ghost use Rattle.ax_source.specs.Parts.{look_with};
-ghost use Rattle.ax_source.specs.Source.{after_edit, HasLeaf};
+ghost use Rattle.ax_source.specs.Source.{after_edit};
 
 use crate::SourceTree;
 use crate::attributes::{Parts, new_parts, set_data};

@@ -1,5 +1,5 @@
 ghost use Rattle.std.specs.Prelude.{◌≡◌, ◌<◌, ◌^◌};
-ghost use Rattle.ax_source.specs.Source.{HasLeaf};
+ghost use Rattle.ax_tree.specs.Edits.{HasLeaf};
 
 use crate::SourceTree;
 use ax_attrs::Key;

@@ -55,6 +55,15 @@ data_set s d = record {
   url = unwrap_or s.url d.url;
 }
 
+-- the node data in an edit have no children
+abbrev pub HasLeaf : Edit → Type 0
+HasLeaf (Root node) = node.children ≡ []
+HasLeaf (Insert parent index node) = node.children ≡ []
+HasLeaf (Remove node) = Unit {0}
+HasLeaf (Move node parent index) = Unit {0}
+HasLeaf (Set what) = Unit {0}
+HasLeaf (Data what) = Unit {0}
+
 -- an edit changes nodes, or tree data
 pub data Change : Type 0 where
   OfNodes : NodeEdit Look → Change
