@@ -1,5 +1,5 @@
 -- Which ids are touched, one part of an update after the other.
-use Rattle.std.proofs.Common.{◌≡◌, ◌⊎◌, ⊎_elim, inl, inr, ℕ, zero, suc, ◌+◌, ◌<◌, Bool, true, false, cond, ◌||◌, eqb, List, [], ◌∷◌, length, get_or, Option, Some, None, Ok, Err, refl, sym, ap, subst, ◌∙◌, arith}
+use Rattle.std.proofs.Common.{◌≡◌, ◌⊎◌, ⊎_elim, inl, inr, ℕ, zero, suc, ◌<◌, Bool, true, false, cond, ◌||◌, eqb, List, [], ◌∷◌, length, get_or, Option, Some, None, Ok, Err, refl, sym, ap, subst, ◌∙◌, arith}
 use Rattle.std.specs.Prelude.{is_some}
 use Rattle.std.specs.FinMap as fin
 use Rattle.std.specs.Ordering.{nat_cmp}
@@ -16,13 +16,13 @@ use Rattle.ax_trees.proofs.Trees.{by_go}
 use Rattle.ax_mirror.specs.declared.entries.Entry.{Entry}
 use Rattle.ax_mirror.specs.declared.draft.Draft.{Draft}
 use Rattle.ax_mirror.specs.Once.{with_id}
-use Rattle.ax_mirror.specs.Placed.{Nodes, pending_entry}
+use Rattle.ax_mirror.specs.Placed.{Nodes}
 use Rattle.ax_mirror.specs.Finishes.{is_pending}
 use Rattle.ax_mirror.specs.Begins.{TouchesAll, root_is, anew_of}
-use Rattle.ax_mirror.specs.Steps.{PutsPending, IsSettled, Updates, updated}
+use Rattle.ax_mirror.specs.Steps.{IsSettled, Updates, updated}
 use Rattle.ax_mirror.specs.Kept.{Holds}
 use Rattle.ax_mirror.specs.Accounts.{Accounts, no_id, is_id, names, node_names, list_names, start_names, lists_id, lists_child, is_listed, is_named, MayBeTouched, TouchesOnly}
-use Rattle.ax_mirror.proofs.Looks.{get_insert, at_other}
+use Rattle.ax_mirror.proofs.Looks.{at_other}
 use Rattle.ax_mirror.proofs.Lists.{IsAt, contains_with}
 use Rattle.ax_mirror.proofs.Updates.{all_settled, refused_clear}
 use Rattle.ax_mirror.proofs.Shows.{there_same}

@@ -1,5 +1,5 @@
 -- What a cleared id and a new root leave.
-use Rattle.std.proofs.Common.{◌≡◌, ◌⊎◌, ⊎_elim, inl, inr, ℕ, zero, suc, ◌+◌, ◌≤◌, Bool, true, false, cond, not, ◌&&◌, ◌||◌, eqb, List, [], ◌∷◌, ◌++◌, length, reverse, Option, Some, None, refl, sym, ap, subst, ◌∙◌, arith}
+use Rattle.std.proofs.Common.{◌≡◌, ◌⊎◌, ℕ, ◌≤◌, Bool, true, false, cond, ◌||◌, eqb, List, [], ◌∷◌, ◌++◌, length, reverse, Option, Some, None, refl, sym, ap, subst, ◌∙◌, arith}
 use Rattle.std.specs.Prelude.{option_map, option_to_list}
 use Rattle.std.specs.FinMap as map
 use Rattle.std.specs.Ordering.{nat_cmp}
@@ -7,7 +7,7 @@ use Rattle.std.proofs.lemmas.Bool.{eqb-true, false_from_ne_true, false≢true}
 use Rattle.std.proofs.lemmas.Bool.Decides.{eqb_tells}
 use Rattle.std.proofs.lemmas.List.{reverse-append, reverse-reverse}
 use Rattle.ax_node.specs.Look.{Look}
-use Rattle.ax_trees.specs.Trees.{Trees, bare, tree, has, has_root, roots, is_root, IsDistinct}
+use Rattle.ax_trees.specs.Trees.{Trees, bare, tree, has, roots, is_root}
 use Rattle.ax_trees.specs.Nodes.{Node, node_at, below}
 use Rattle.ax_trees.specs.Changes.{with_node}
 use Rattle.ax_trees.specs.Lists.{contains}
@@ -21,7 +21,7 @@ use Rattle.ax_mirror.specs.declared.entries.Entry.{Entry}
 use Rattle.ax_mirror.specs.declared.draft.Draft.{Draft}
 use Rattle.ax_mirror.specs.Once.{with_id}
 use Rattle.ax_mirror.specs.Placed.{Nodes, look, place, told_node, told_place, pending_entry}
-use Rattle.ax_mirror.specs.Kept.{Hung, Keeps}
+use Rattle.ax_mirror.specs.Kept.{Keeps}
 use Rattle.ax_mirror.specs.Steps.{Tells, Tracked, Makes, Unmade, TakesOut, PutsPending}
 use Rattle.ax_mirror.specs.Begins.{root_is, anew_of, TouchesAll}
 use Rattle.ax_mirror.proofs.Looks.{get_insert}

@@ -1,5 +1,5 @@
 -- What a run over updates has come to, and what it makes of a mirror.
-use Rattle.std.proofs.Common.{◌≡◌, ◌≤◌, ◌⊎◌, ⊎_elim, inl, inr, ℕ, zero, suc, ◌+◌, ◌<◌, ◌||◌, true, false, List, [], ◌∷◌, length, drop, get_or, Option, Some, None, Result, Ok, Err, refl, sym, ap, subst, ◌∙◌, arith}
+use Rattle.std.proofs.Common.{◌≡◌, ◌≤◌, ◌⊎◌, ⊎_elim, inl, inr, ℕ, suc, ◌+◌, ◌<◌, true, false, List, [], ◌∷◌, length, drop, get_or, Option, None, Result, Ok, Err, refl, sym, ap, subst, ◌∙◌, arith}
 use Rattle.std.specs.Prelude.{option_map}
 use Rattle.std.specs.FinMap as fin
 use Rattle.std.specs.Ordering.{nat_cmp}
@@ -16,14 +16,13 @@ use Rattle.ax_tree.specs.declared.update.Refusal.{Refusal}
 use Rattle.ax_tree.specs.declared.update.Refusal.TheVariants.{NoMemory}
 use Rattle.ax_tree.specs.declared.update.BundleErr.{BundleErr}
 use Rattle.ax_tree.specs.declared.update.TreeUpdate.{TreeUpdate}
-use Rattle.ax_tree.specs.Tree.{Tree, empty, node, data_of}
+use Rattle.ax_tree.specs.Tree.{Tree, data_of}
 use Rattle.ax_tree.specs.UpdateRule.{draft_of}
 use Rattle.ax_tree.specs.Updates.{applied, applied_from, applied_all, told}
 use Rattle.ax_laws.proofs.Drafts.{has-draft}
-use Rattle.ax_mirror.specs.declared.entries.Entry.{Entry}
 use Rattle.ax_mirror.specs.declared.draft.Draft.{Draft}
 use Rattle.ax_mirror.specs.Placed.{Nodes}
-use Rattle.ax_mirror.specs.Kept.{Keeps, Holds, shown}
+use Rattle.ax_mirror.specs.Kept.{Holds, shown}
 use Rattle.ax_mirror.specs.Steps.{Updates, UpdateRefused, updated, GivesTrees, Tracked}
 use Rattle.ax_mirror.specs.Begins.{TrackedTrees, Forgets}
 use Rattle.ax_mirror.specs.Accounts.{is_listed, is_named, MayBeTouched, NamesOnly, TouchesOnly}

@@ -1,24 +1,22 @@
 -- The least pending node and the longest chain of a draft, found among the ids that were made.
-use Rattle.std.proofs.Common.{◌≡◌, ℕ, suc, ◌+◌, ◌≤◌, ◌<◌, min, max, Bool, true, false, cond, eqb, leb, ◌||◌, List, [], ◌∷◌, drop, take, length, Option, Some, None, Ok, Err, refl, sym, ap, subst, ◌∙◌, arith, ◌⊎◌, ⊎_elim, inl, inr}
+use Rattle.std.proofs.Common.{◌≡◌, ℕ, suc, ◌+◌, ◌≤◌, ◌<◌, min, max, Bool, true, false, cond, eqb, leb, ◌||◌, List, take, length, Option, Some, None, Ok, Err, refl, sym, ap, subst, ◌∙◌, arith, ◌⊎◌, ⊎_elim, inl, inr}
 use Rattle.std.specs.Prelude.{option_map}
 use Rattle.std.specs.FinMap as fin
-use Rattle.std.proofs.lemmas.Bool.{eqb-true, false_from_ne_true, false≢true, le-leb, lt-leb}
+use Rattle.std.proofs.lemmas.Bool.{eqb-true, false≢true, le-leb, lt-leb}
 use Rattle.std.proofs.lemmas.Bool.Decides.{eqb_tells}
 use Rattle.ax_node.specs.Look.{Look, blank_look, look_of}
-use Rattle.ax_trees.specs.Trees.{Trees, bare, tree, has, roots, height, IsDistinct}
+use Rattle.ax_trees.specs.Trees.{Trees, bare, tree, has, height, IsDistinct}
 use Rattle.ax_trees.specs.Nodes.{Node, node_at}
 use Rattle.ax_trees.specs.Lists.{contains}
-use Rattle.ax_trees.specs.Spots.{Stands}
 use Rattle.ax_trees.proofs.Trees.{by_go}
 use Rattle.ax_trees.proofs.Grown.{node_none}
-use Rattle.ax_tree.specs.declared.update.Refusal.{Refusal}
 use Rattle.ax_tree.specs.declared.update.Refusal.TheVariants.{Pending, TooDeep}
 use Rattle.ax_tree.specs.UpdateRule.{least, own_pending, least_pending, completed, finished}
 use Rattle.ax_mirror.specs.declared.entries.Entry.{Entry}
-use Rattle.ax_mirror.specs.Placed.{Nodes, look, place, told_node, told_place}
+use Rattle.ax_mirror.specs.Placed.{Nodes, place, told_node, told_place}
 use Rattle.ax_mirror.specs.Kept.{Keeps}
 use Rattle.ax_mirror.specs.Steps.{Settled, IsSettled}
-use Rattle.ax_mirror.specs.Finishes.{is_pending, level_of, pends_among, IsLeast, IsDeepest, Finished, Unfinished}
+use Rattle.ax_mirror.specs.Finishes.{is_pending, level_of, pends_among, IsLeast, IsDeepest}
 use Rattle.ax_mirror.proofs.Lists.{IsAt, contains_next, take_whole}
 use Rattle.ax_mirror.proofs.Hangs.{low, reached}
 use Rattle.ax_mirror.proofs.Together.{is_there}

@@ -1,9 +1,9 @@
 -- What the kept places of nodes tell of parents and chains.
-use Rattle.std.proofs.Common.{◌≡◌, ℕ, zero, suc, ◌+◌, ◌≤◌, ◌<◌, max, Bool, true, false, cond, eqb, ◌||◌, List, [], ◌∷◌, Option, Some, None, refl, sym, ap, subst, ◌∙◌, arith}
+use Rattle.std.proofs.Common.{◌≡◌, ℕ, suc, ◌+◌, ◌≤◌, ◌<◌, true, false, cond, eqb, ◌||◌, List, [], ◌∷◌, Option, Some, None, refl, sym, ap, subst, ◌∙◌, arith}
 use Rattle.std.proofs.lemmas.Bool.{eqb-true, false_from_ne_true, false≢true}
 use Rattle.std.proofs.lemmas.Bool.Decides.{eqb_tells}
-use Rattle.ax_trees.specs.Trees.{Trees, bare, tree, has, has_root, roots, height, IsDistinct}
-use Rattle.ax_trees.specs.Nodes.{below, root_below, root_known, parent}
+use Rattle.ax_trees.specs.Trees.{Trees, bare, tree, has, has_root, height, IsDistinct}
+use Rattle.ax_trees.specs.Nodes.{below, root_below, parent}
 use Rattle.ax_trees.specs.Changes.{with_node}
 use Rattle.ax_trees.specs.Lists.{contains}
 use Rattle.ax_trees.proofs.Trees.{by_go, root_in}

@@ -1,10 +1,8 @@
 -- What loops over a list of ids have found.
-use Rattle.std.proofs.Common.{◌≡◌, ℕ, zero, suc, ◌+◌, ◌<◌, ◌≤◌, Bool, true, false, cond, not, ◌&&◌, ◌||◌, eqb, List, [], ◌∷◌, ◌++◌, length, drop, take, get_or, Option, Some, None, refl, sym, ap, subst, ◌∙◌, arith, append_assoc, length-append}
-use Rattle.std.specs.Prelude.{is_some, option_map}
-use Rattle.std.proofs.lemmas.Bool.Decides.{eqb_tells}
+use Rattle.std.proofs.Common.{◌≡◌, ℕ, zero, suc, ◌+◌, ◌<◌, ◌≤◌, Bool, true, false, cond, not, ◌||◌, eqb, List, [], ◌∷◌, ◌++◌, length, drop, take, get_or, Some, None, refl, sym, ap, subst, ◌∙◌, arith, append_assoc, length-append}
 use Rattle.std.proofs.lemmas.List.{drop_more, take_more}
 use Rattle.std.proofs.lemmas.Bool.{eqb-true}
-use Rattle.ax_trees.specs.Lists.{contains, first_that, NoneTwice}
+use Rattle.ax_trees.specs.Lists.{contains, NoneTwice}
 use Rattle.ax_trees.proofs.Lists.{once_push}
 use Rattle.ax_tree.specs.UpdateRule.{first_repeated}
 use Rattle.ax_mirror.specs.Once.{with_id}

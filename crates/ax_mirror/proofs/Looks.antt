@@ -7,7 +7,7 @@ use Rattle.std.proofs.lemmas.Bool.Decides.{eqb_tells, nat_tests}
 use Rattle.std.specs.Cmp.{nat_cmp_total}
 use Rattle.std.specs.FinMap as map
 use Rattle.ax_mirror.specs.declared.entries.Entry.{Entry}
-use Rattle.ax_mirror.specs.Placed.{Nodes, look, place, told_node, told_place}
+use Rattle.ax_mirror.specs.Placed.{Nodes}
 
 cmp_is : (a b : ℕ) → eq_by_cmp nat_cmp a b ≡ eqb b a
 cmp_is a b = grind (arith, nat_tests, eqb_tells a b, eqb_tells b a)

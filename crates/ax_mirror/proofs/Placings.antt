@@ -1,15 +1,13 @@
 -- What a loop that places children has made.
-use Rattle.std.proofs.Common.{◌≡◌, ℕ, zero, suc, ◌+◌, ◌<◌, ◌≤◌, Bool, true, false, cond, not, ◌&&◌, ◌||◌, eqb, List, [], ◌∷◌, ◌++◌, length, drop, take, Option, Some, None, refl, sym, ap, subst, ◌∙◌, arith}
+use Rattle.std.proofs.Common.{◌≡◌, ℕ, ◌+◌, ◌≤◌, Bool, true, false, cond, not, ◌&&◌, eqb, List, [], ◌∷◌, ◌++◌, length, drop, take, Some, None, refl, sym, ap, subst, ◌∙◌, arith}
 use Rattle.std.specs.Prelude.{is_some}
 use Rattle.std.specs.FinMap as fin
 use Rattle.std.proofs.lemmas.Bool.Decides.{eqb_tells}
 use Rattle.std.proofs.lemmas.Bool.{eqb-true, false≢true}
 use Rattle.ax_trees.specs.Lists.{contains, first_that}
-use Rattle.ax_trees.proofs.Trees.{by_go}
 use Rattle.ax_tree.specs.UpdateRule.{first_repeated}
-use Rattle.ax_mirror.specs.declared.entries.Entry.{Entry}
 use Rattle.ax_mirror.specs.declared.draft.Draft.{Draft}
-use Rattle.ax_mirror.specs.Placed.{Nodes, pending_entry}
+use Rattle.ax_mirror.specs.Placed.{pending_entry}
 use Rattle.ax_mirror.specs.Steps.{PutsPending, Places, is_elsewhere}
 use Rattle.ax_mirror.proofs.Looks.{get_insert}
 use Rattle.ax_mirror.proofs.Lists.{IsAt, drop_at, contains_push, contains_next, fresh_item, take_whole, drop_whole}

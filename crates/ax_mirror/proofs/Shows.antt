@@ -1,28 +1,28 @@
 -- What a map that holds a tree tells a reader.
-use Rattle.std.proofs.Common.{◌≡◌, ℕ, zero, suc, ◌+◌, ◌-◌, ◌≤◌, ◌<◌, Bool, true, false, cond, eqb, ◌||◌, List, [], ◌∷◌, ◌++◌, map, length, Option, Some, None, Result, Ok, Err, refl, sym, ap, subst, ◌∙◌, arith}
+use Rattle.std.proofs.Common.{◌≡◌, ℕ, ◌+◌, ◌≤◌, Bool, true, false, cond, eqb, ◌||◌, List, [], ◌∷◌, ◌++◌, map, length, Option, Some, None, refl, sym, ap, subst, ◌∙◌, arith}
 use Rattle.std.specs.Prelude.{option_map, option_to_list, option_and_then, is_some}
 use Rattle.std.specs.Ordering.{nat_cmp, eq_by_cmp}
 use Rattle.std.specs.List.{list_any}
 use Rattle.std.specs.FinMap as fin
-use Rattle.std.proofs.lemmas.Bool.{eqb-true, false_from_ne_true, false≢true}
+use Rattle.std.proofs.lemmas.Bool.{eqb-true, false≢true}
 use Rattle.std.proofs.lemmas.Bool.Decides.{eqb_tells, nat_tests}
 use Rattle.ax_node.specs.Look.{Look, look_of, node_of, blank_look}
 use Rattle.ax_node.specs.declared.node.NodeData.{NodeData}
-use Rattle.ax_trees.specs.Trees.{Trees, bare, tree, has, has_root, roots, root_of, ids, count, height, IsSingle, IsDistinct, IsTree, AreApart}
+use Rattle.ax_trees.specs.Trees.{Trees, bare, tree, has, roots, root_of, ids, count, height, IsSingle, IsDistinct, IsTree}
 use Rattle.ax_trees.specs.Nodes.{Node, node_at, parent}
 use Rattle.ax_trees.specs.Lists.{contains, NoneTwice}
-use Rattle.ax_trees.specs.Spots.{Stands, grown}
+use Rattle.ax_trees.specs.Spots.{grown}
 use Rattle.ax_trees.proofs.Trees.{by_go}
 use Rattle.ax_trees.proofs.Lists.{contains-append}
-use Rattle.ax_trees.proofs.Grown.{told, node_none, node_some}
+use Rattle.ax_trees.proofs.Grown.{told}
 use Rattle.ax_trees.proofs.PlacedParents.{parent_none}
 use Rattle.ax_trees.proofs.Times.{contains-ids, length-ids, has-node}
 use Rattle.ax_tree.specs.UpdateRule.{draft_of, draft_node, completed}
-use Rattle.ax_tree.specs.Tree.{as_node, data_of}
+use Rattle.ax_tree.specs.Tree.{data_of}
 use Rattle.ax_laws.proofs.Drafts.{has-draft, has_root-draft, roots-draft, height-draft, completed-draft}
 use Rattle.ax_mirror.specs.declared.entries.Entry.{Entry}
 use Rattle.ax_mirror.specs.Placed.{Nodes, look, place, told_node, told_place}
-use Rattle.ax_mirror.specs.Kept.{Keeps, Holds, shown}
+use Rattle.ax_mirror.specs.Kept.{Holds, shown}
 use Rattle.ax_mirror.proofs.Looks.{get_remove, len_remove, is_some-map}
 use Rattle.ax_mirror.proofs.Hangs.{above_is_parent}
 

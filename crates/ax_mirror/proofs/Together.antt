@@ -1,5 +1,5 @@
 -- What the parts of one node's data make together.
-use Rattle.std.proofs.Common.{◌≡◌, ℕ, zero, suc, ◌+◌, ◌⊎◌, inl, inr, Bool, true, false, cond, not, ◌&&◌, ◌||◌, eqb, List, [], ◌∷◌, ◌++◌, reverse, Option, Some, None, Result, Ok, Err, refl, sym, ap, subst, ◌∙◌, arith}
+use Rattle.std.proofs.Common.{◌≡◌, ℕ, suc, Bool, true, false, cond, not, ◌&&◌, ◌||◌, eqb, List, [], ◌∷◌, reverse, Option, Some, None, Ok, Err, refl, sym, ap, subst, ◌∙◌, arith}
 use Rattle.std.specs.Prelude.{is_some, option_map}
 use Rattle.std.specs.FinMap as map
 use Rattle.std.proofs.lemmas.Bool.{eqb-true, false_from_ne_true, false≢true}
@@ -18,9 +18,7 @@ use Rattle.ax_trees.proofs.Grown.{node_none, node_some}
 use Rattle.ax_trees.proofs.Lists.{first_that_ext}
 use Rattle.ax_tree.specs.UpdateRule.{only, arranged, first_repeated, bad_child, draft_node}
 use Rattle.ax_tree.specs.Tree.{as_node}
-use Rattle.ax_tree.specs.declared.update.Refusal.{Refusal}
 use Rattle.ax_tree.specs.declared.update.Refusal.TheVariants.{NotInTree, DuplicateChild, Reparented}
-use Rattle.ax_laws.specs.NodeSteps.{stepped}
 use Rattle.ax_laws.proofs.Arranged.{arranged_from, only_in, distinct_arranged}
 use Rattle.ax_laws.proofs.NodeSteps.{stands_step, only_below, only_root}
 use Rattle.ax_mirror.specs.declared.entries.Entry.{Entry}

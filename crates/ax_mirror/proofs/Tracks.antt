@@ -1,5 +1,5 @@
 -- What isn't touched stays, and what isn't made keeps its level.
-use Rattle.std.proofs.Common.{◌≡◌, ◌⊎◌, ⊎_elim, not, ◌&&◌, ℕ, ◌+◌, ◌≤◌, Bool, true, false, cond, eqb, List, [], ◌∷◌, ◌++◌, Option, Some, None, refl, sym, ap, subst, ◌∙◌, arith}
+use Rattle.std.proofs.Common.{◌≡◌, ◌⊎◌, ⊎_elim, not, ◌&&◌, ℕ, ◌+◌, ◌≤◌, Bool, true, false, cond, eqb, List, Option, Some, None, refl, sym, ap, subst, ◌∙◌, arith}
 use Rattle.std.specs.FinMap as fin
 use Rattle.ax_trees.specs.Lists.{contains}
 use Rattle.ax_mirror.specs.declared.entries.Entry.{Entry}
@@ -10,7 +10,6 @@ use Rattle.ax_mirror.specs.Placed.{pending_entry}
 use Rattle.ax_trees.proofs.Trees.{by_go}
 use Rattle.std.proofs.lemmas.Bool.{eqb-true, false≢true}
 use Rattle.ax_mirror.proofs.Lists.{contains_with}
-use Rattle.ax_mirror.proofs.Looks.{get_insert}
 
 pub track_start : (d : Draft) → Tracked d d
 track_start d = record { same = λ z h. refl; grows = λ z h. h }

@@ -1,25 +1,23 @@
 -- What a whole update comes to.
-use Rattle.std.proofs.Common.{◌≡◌, ℕ, suc, ◌+◌, ◌≤◌, ◌<◌, max, Bool, true, false, cond, List, [], map, Option, Some, None, Result, Ok, Err, refl, sym, ap, subst, ◌∙◌, arith}
+use Rattle.std.proofs.Common.{◌≡◌, ℕ, ◌+◌, ◌≤◌, ◌<◌, false, cond, Option, Some, None, Ok, Err, refl, sym, ap, subst, ◌∙◌, arith}
 use Rattle.std.specs.Prelude.{option_map, is_some}
 use Rattle.std.specs.FinMap as fin
-use Rattle.std.proofs.lemmas.Bool.{false≢true}
 use Rattle.ax_node.specs.Look.{Look, blank_look}
-use Rattle.ax_trees.specs.Trees.{Trees, bare, tree, has, roots, height}
-use Rattle.ax_trees.specs.Nodes.{Node, node_at}
-use Rattle.ax_trees.specs.Lists.{contains}
+use Rattle.ax_trees.specs.Trees.{Trees, bare, tree, has, height}
+use Rattle.ax_trees.specs.Nodes.{node_at}
 use Rattle.ax_trees.proofs.Times.{has-node}
 use Rattle.ax_tree.specs.declared.update.Refusal.{Refusal}
 use Rattle.ax_tree.specs.declared.update.Refusal.TheVariants.{BadClear}
 use Rattle.ax_tree.specs.declared.update.TreeUpdate.{TreeUpdate}
-use Rattle.ax_tree.specs.UpdateRule.{least, own_pending, least_pending, completed, finished, draft_of, started, missing}
+use Rattle.ax_tree.specs.UpdateRule.{least, least_pending, completed, finished, draft_of, started, missing}
 use Rattle.ax_laws.proofs.Drafts.{has-draft, height-draft}
 use Rattle.ax_mirror.specs.declared.entries.Entry.{Entry}
 use Rattle.ax_mirror.specs.declared.draft.Draft.{Draft}
-use Rattle.ax_mirror.specs.Placed.{Nodes, look, place, told_node, told_place}
+use Rattle.ax_mirror.specs.Placed.{Nodes, place, told_node, told_place}
 use Rattle.ax_mirror.specs.Kept.{Keeps, Holds}
-use Rattle.ax_mirror.specs.Steps.{Makes, Unmade, Settled, IsSettled, Gives, GivesTrees, Accepts, all_taken, updated, Tracked}
+use Rattle.ax_mirror.specs.Steps.{Makes, Unmade, Settled, IsSettled, Gives, GivesTrees, all_taken, updated}
 use Rattle.ax_mirror.specs.Begins.{missing_in}
-use Rattle.ax_mirror.specs.Finishes.{is_pending, Finished}
+use Rattle.ax_mirror.specs.Finishes.{Finished}
 use Rattle.ax_mirror.proofs.Looks.{is_some-map}
 use Rattle.ax_mirror.proofs.Hangs.{reached}
 use Rattle.ax_mirror.proofs.Together.{is_there}

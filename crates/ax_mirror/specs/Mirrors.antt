@@ -1,5 +1,5 @@
 -- What updates make of a mirror, and which ids are touched.
-use Rattle.std.specs.Prelude.{ℕ, ◌≡◌, ◌⊎◌, Bool, false, if◌then◌else◌, List, Option, refl, Result, Ok, Err}
+use Rattle.std.specs.Prelude.{ℕ, ◌≡◌, ◌⊎◌, Bool, false, if◌then◌else◌, List, refl, Result, Ok, Err}
 use Rattle.std.specs.Coded.{Coded, code_by, coded×}
 use Rattle.ax_node.specs.Look.{Look, coded_look}
 use Rattle.ax_node.specs.declared.tree_data.TreeData.{TreeData}
@@ -10,9 +10,7 @@ use Rattle.ax_trees.specs.Lists.{contains}
 use Rattle.ax_tree.specs.declared.update.Refusal.{Refusal}
 use Rattle.ax_tree.specs.declared.update.Refusal.TheVariants.{NoMemory}
 use Rattle.ax_tree.specs.declared.update.BundleErr.{BundleErr}
-use Rattle.ax_tree.specs.declared.update.TreeUpdate.{TreeUpdate}
 use Rattle.ax_tree.specs.Tree.{Tree, empty, node}
-use Rattle.ax_tree.specs.Updates.{applied, applied_all}
 use Rattle.ax_mirror.specs.declared.draft.Draft.{Draft}
 use Rattle.ax_mirror.specs.Kept.{Holds}
 use Rattle.ax_mirror.specs.Steps.{Tracked}

@@ -1,15 +1,15 @@
 -- What the parts of an update make of a draft.
-use Rattle.std.specs.Prelude.{ℕ, ◌≡◌, ◌≤◌, ◌⊎◌, Bool, true, false, not, ◌&&◌, if◌then◌else◌, List, [], ◌∷◌, map, reverse, Option, Some, None, is_some, option_to_list, Result, Ok, Err}
+use Rattle.std.specs.Prelude.{ℕ, ◌≡◌, ◌≤◌, ◌⊎◌, Bool, true, false, not, ◌&&◌, if◌then◌else◌, List, [], ◌∷◌, map, reverse, Option, Some, None, is_some, Result, Ok, Err}
 use Rattle.std.specs.FinMap as fin
 use Rattle.ax_node.specs.Look.{Look, blank_look}
 use Rattle.ax_node.specs.declared.node.NodeData.{NodeData}
 use Rattle.ax_trees.specs.Trees.{Trees, has, roots, IsDistinct}
-use Rattle.ax_trees.specs.Nodes.{Node, node_at}
+use Rattle.ax_trees.specs.Nodes.{node_at}
 use Rattle.ax_trees.specs.Lists.{contains}
 use Rattle.ax_tree.specs.declared.update.Refusal.{Refusal}
 use Rattle.ax_tree.specs.declared.update.Refusal.TheVariants.{NoMemory}
 use Rattle.ax_tree.specs.declared.update.TreeUpdate.{TreeUpdate}
-use Rattle.ax_tree.specs.UpdateRule.{draft_node, node_taken, nodes_taken, started, trees_after}
+use Rattle.ax_tree.specs.UpdateRule.{draft_node, node_taken, nodes_taken, trees_after}
 use Rattle.ax_tree.specs.Tree.{as_node}
 use Rattle.ax_tree.specs.Updates.{nodes_part}
 use Rattle.ax_mirror.specs.declared.entries.Entry.{Entry}

@@ -1,5 +1,4 @@
-use Rattle.std.proofs.Common.{◌≡◌, ◌∙◌, ap, sym, nat_eq, not, true, false, Bool, ℕ, refl, List}
-use Rattle.std.specs.HashSet as bag
+use Rattle.std.proofs.Common.{◌≡◌, ◌∙◌, ap, sym, not, true, false, Bool, refl}
 use Rattle.ax_tree.specs.UpdateRule.{first_repeated}
 use Rattle.std.specs.Prelude.{[]}
 use Rattle.ax_mirror.proofs.Lists.{twice_here, twice_next}

@@ -1,7 +1,5 @@
-use Rattle.std.proofs.Common.{◌≡◌, ℕ, drop, nat_eq, List, []}
+use Rattle.std.proofs.Common.{nat_eq}
 use Rattle.std.specs.HashSet as bag
-use Rattle.ax_trees.specs.Lists.{contains}
-use Rattle.ax_tree.specs.UpdateRule.{first_repeated}
 use Rattle.ax_mirror.proofs.Lists.{Seen}
 use Rattle.ax_mirror.proofs.children.first_repeated.Given as goal
 

@@ -1,4 +1,4 @@
-use Rattle.std.proofs.Common.{◌≡◌, ◌∙◌, ap, sym, nat_eq}
+use Rattle.std.proofs.Common.{◌∙◌, sym}
 use Rattle.ax_mirror.proofs.Lists.{unlisted_in, unlisted_out}
 use Rattle.ax_mirror.proofs.children.outside.Goals as goal
 

@@ -1,4 +1,4 @@
-use Rattle.std.proofs.Common.{◌≡◌, ℕ, drop, nat_eq, ◌++◌}
+use Rattle.std.proofs.Common.{◌≡◌, drop, nat_eq, ◌++◌}
 use Rattle.std.specs.HashSet as bag
 use Rattle.ax_mirror.specs.Steps.{unlisted}
 use Rattle.ax_mirror.proofs.children.outside.Given as goal

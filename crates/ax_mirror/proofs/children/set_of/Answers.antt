@@ -1,4 +1,4 @@
-use Rattle.std.proofs.Common.{◌≡◌, ◌∙◌, ap, sym, cond, eqb, true}
+use Rattle.std.proofs.Common.{◌∙◌, ap, sym, cond, eqb, true}
 use Rattle.ax_mirror.proofs.Lists.{contains_next}
 use Rattle.ax_mirror.proofs.children.set_of.Goals as goal
 

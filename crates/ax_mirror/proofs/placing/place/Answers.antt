@@ -1,5 +1,5 @@
-use Rattle.std.proofs.Common.{◌≡◌, ◌≤◌, ◌+◌, ◌∙◌, ap, sym, subst, nat_eq, ℕ, refl, List, true, Some, None, [], length, arith}
-use Rattle.std.specs.Prelude.{is_some, Option}
+use Rattle.std.proofs.Common.{◌∙◌, ap, sym, subst, nat_eq, ℕ, List, [], arith}
+use Rattle.std.specs.Prelude.{is_some}
 use Rattle.std.specs.HashSet as bag
 use Rattle.ax_trees.specs.Lists.{first_that}
 use Rattle.ax_tree.specs.UpdateRule.{first_repeated}

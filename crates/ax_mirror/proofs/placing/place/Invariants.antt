@@ -1,4 +1,4 @@
-use Rattle.std.proofs.Common.{◌≡◌, ◌≤◌, ◌+◌, ℕ, length, nat_eq}
+use Rattle.std.proofs.Common.{◌≤◌, ◌+◌, length, nat_eq}
 use Rattle.std.specs.HashSet as bag
 use Rattle.ax_mirror.specs.Steps.{Tracked}
 use Rattle.ax_trees.specs.Lists.{contains}

@@ -1,12 +1,9 @@
-use Rattle.std.proofs.Common.{◌≡◌, ◌∙◌, ap, sym, ℕ, List, ◌∷◌, [], ◌++◌, refl, cond, eqb, true, subst, arith, Option}
-use Rattle.std.proofs.lemmas.Bool.Decides.{eqb_tells}
+use Rattle.std.proofs.Common.{◌∙◌, ap, ℕ, refl, true, Option}
 use Rattle.std.specs.FinMap as map
 use Rattle.ax_node.specs.declared.node.NodeData.{NodeData}
-use Rattle.ax_trees.specs.Lists.{contains}
 use Rattle.ax_mirror.specs.Placed.{Nodes}
 use Rattle.ax_mirror.specs.declared.entries.Entry.{Entry}
 use Rattle.ax_mirror.proofs.Looks.{get_insert, at_other}
-use Rattle.ax_mirror.proofs.Lists.{contains_push}
 use Rattle.ax_mirror.proofs.Placings.{pushed_here, pushed_more}
 use Rattle.ax_mirror.proofs.Tracks.{track_touch}
 use Rattle.std.proofs.Common.{inl}

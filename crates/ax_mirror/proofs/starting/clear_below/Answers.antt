@@ -1,9 +1,9 @@
-use Rattle.std.proofs.Common.{◌≡◌, ◌∙◌, ◌++◌, ap, sym, subst, refl, cond, ℕ, List, [], reverse, None, Some}
+use Rattle.std.proofs.Common.{◌≡◌, ◌∙◌, ◌++◌, ap, sym, subst, cond, ℕ, List, reverse, None}
 use Rattle.std.specs.Prelude.{Option}
 use Rattle.std.specs.Option.{option_copied}
 use Rattle.std.proofs.lemmas.List.{reverse-reverse}
 use Rattle.std.specs.FinMap as map
-use Rattle.ax_trees.specs.Trees.{Trees, bare, has, roots}
+use Rattle.ax_trees.specs.Trees.{bare, has, roots}
 use Rattle.ax_trees.specs.Nodes.{below}
 use Rattle.ax_trees.specs.Changes.{with_node}
 use Rattle.ax_mirror.specs.declared.entries.Entry.{Entry}

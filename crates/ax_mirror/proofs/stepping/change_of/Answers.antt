@@ -1,4 +1,4 @@
-use Rattle.std.proofs.Common.{◌≡◌, ◌∙◌, ◌++◌, ap, sym, refl, List, ℕ, reverse, suc, arith, nat_eq}
+use Rattle.std.proofs.Common.{◌∙◌, ◌++◌, ap, sym, refl, List, ℕ, reverse, arith, nat_eq}
 use Rattle.std.specs.HashSet as bag
 use Rattle.std.proofs.lemmas.List.{reverse-reverse}
 use Rattle.ax_trees.specs.Lists.{contains}

@@ -1,22 +1,20 @@
-use Rattle.std.proofs.Common.{◌≡◌, ◌⊎◌, ⊎_elim, inl, inr, ◌∙◌, ap, sym, subst, refl, cond, eqb, not, ◌&&◌, nat_eq, ℕ, suc, List, [], reverse, Bool, true, false, None, Some, Err, Result}
+use Rattle.std.proofs.Common.{◌≡◌, ⊎_elim, inl, inr, ◌∙◌, ap, sym, subst, refl, cond, eqb, not, ◌&&◌, nat_eq, ℕ, false, None, Some, Err}
 use Rattle.std.specs.Prelude.{Option}
 use Rattle.std.specs.Option.{option_copied}
 use Rattle.std.specs.HashSet as bag
 use Rattle.std.specs.FinMap as map
-use Rattle.ax_node.specs.Look.{Look}
 use Rattle.ax_node.specs.declared.node.NodeData.{NodeData}
-use Rattle.ax_trees.specs.Trees.{Trees, has}
+use Rattle.ax_trees.specs.Trees.{has}
 use Rattle.ax_trees.specs.Nodes.{below}
 use Rattle.ax_trees.specs.Lists.{contains, first_that}
 use Rattle.ax_tree.specs.declared.update.Refusal.{Refusal}
-use Rattle.ax_tree.specs.declared.update.Refusal.TheVariants.{NoMemory}
-use Rattle.ax_tree.specs.UpdateRule.{first_repeated, draft_node}
+use Rattle.ax_tree.specs.UpdateRule.{draft_node}
 use Rattle.ax_tree.specs.Tree.{as_node}
 use Rattle.ax_mirror.specs.declared.entries.Entry.{Entry}
-use Rattle.ax_mirror.specs.Placed.{Nodes, told_node, told_place, pending_entry}
+use Rattle.ax_mirror.specs.Placed.{Nodes, pending_entry}
 use Rattle.ax_mirror.specs.Kept.{Keeps}
 use Rattle.ax_mirror.specs.Changes.{RepeatsChild}
-use Rattle.ax_mirror.specs.Steps.{is_elsewhere, Places, taken}
+use Rattle.ax_mirror.specs.Steps.{is_elsewhere, Places}
 use Rattle.ax_mirror.proofs.Looks.{get_insert, at_other}
 use Rattle.ax_mirror.proofs.Tracks.{track_touch, track_then, made_step}
 use Rattle.ax_mirror.proofs.Together.{refused_absent, refused_twice, is_refused, is_accepted, keeps_on, tells_leave, tops_leave, leave, with_next}

@@ -1,4 +1,4 @@
-use Rattle.std.proofs.Common.{◌≡◌, ◌∙◌, ap, sym, arith}
+use Rattle.std.proofs.Common.{arith}
 use Rattle.ax_mirror.proofs.Tracks.{track_start, track_then, made_start, made_then, costs_then}
 use Rattle.ax_mirror.proofs.Runs.{run_begins, run_next, run_stops, run_ends}
 use Rattle.ax_mirror.proofs.Accounts.{acc_start, acc_then, acc_node}

@@ -1,4 +1,4 @@
-use Rattle.std.proofs.Common.{◌≡◌, ◌≤◌, ◌+◌, length}
+use Rattle.std.proofs.Common.{◌≤◌, ◌+◌, length}
 use Rattle.ax_mirror.specs.Steps.{Tracked, Makes}
 use Rattle.ax_mirror.specs.Accounts.{Accounts, list_names, lists_id}
 use Rattle.ax_mirror.proofs.Runs.{RanTo}

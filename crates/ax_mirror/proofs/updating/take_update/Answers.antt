@@ -1,4 +1,4 @@
-use Rattle.std.proofs.Common.{◌≡◌, ◌⊎◌, ⊎_elim, inl, inr, ◌∙◌, ap, sym, subst, refl, ℕ, List, None, Some, Err}
+use Rattle.std.proofs.Common.{◌≡◌, ⊎_elim, inl, inr, ◌∙◌, ap, sym, subst, refl, ℕ, List, None}
 use Rattle.std.specs.Prelude.{Option}
 use Rattle.ax_node.specs.Look.{Look}
 use Rattle.ax_node.specs.declared.node.NodeData.{NodeData}
@@ -6,8 +6,8 @@ use Rattle.ax_trees.specs.Trees.{Trees}
 use Rattle.ax_tree.specs.declared.update.TreeUpdate.{TreeUpdate}
 use Rattle.ax_tree.specs.UpdateRule.{draft_of, started, missing}
 use Rattle.ax_mirror.specs.declared.draft.Draft.{Draft}
-use Rattle.ax_mirror.specs.Kept.{Keeps, Holds}
-use Rattle.ax_mirror.specs.Steps.{Gives, Settled, Makes, all_taken}
+use Rattle.ax_mirror.specs.Kept.{Keeps}
+use Rattle.ax_mirror.specs.Steps.{Gives, all_taken}
 use Rattle.ax_mirror.specs.Finishes.{Finished, Unfinished}
 use Rattle.ax_mirror.proofs.Tracks.{made_then}
 use Rattle.ax_mirror.proofs.Updates.{settled_of, missing_same, refused_clear, refused_node, refused_end, gives_trees}

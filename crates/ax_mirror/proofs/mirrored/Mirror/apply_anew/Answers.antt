@@ -1,11 +1,11 @@
-use Rattle.std.proofs.Common.{◌≡◌, ◌≤◌, ◌+◌, ◌∙◌, ap, sym, subst, ℕ, List, length, arith, Ok}
+use Rattle.std.proofs.Common.{◌∙◌, ap, sym, subst, List}
 use Rattle.ax_node.specs.declared.tree_data.TreeData.{TreeData}
 use Rattle.ax_tree.specs.Tree.{Tree, empty}
-use Rattle.ax_tree.specs.Updates.{applied, applied_all}
+use Rattle.ax_tree.specs.Updates.{applied_all}
 use Rattle.ax_tree.specs.declared.update.TreeUpdate.{TreeUpdate}
 use Rattle.ax_trees.specs.Trees.{bare}
 use Rattle.ax_mirror.specs.Kept.{shown}
-use Rattle.ax_mirror.specs.Mirrors.{with_about, NamesChanges, RefusedAs, BrokenAs, Applies, IsBroken}
+use Rattle.ax_mirror.specs.Mirrors.{with_about, NamesChanges, BrokenAs, Applies, IsBroken}
 use Rattle.ax_mirror.specs.Accounts.{NamesOnly, TouchesOnly}
 use Rattle.ax_mirror.proofs.Bundles.{anew_holds, anew_is, anew_names, anew_only, anew_broken}
 use Rattle.ax_mirror.proofs.mirrored.Mirror.apply_anew.Goals as goal

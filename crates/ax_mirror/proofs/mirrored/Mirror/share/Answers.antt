@@ -1,4 +1,4 @@
-use Rattle.std.proofs.Common.{◌≡◌, ◌∙◌, ap, sym, subst}
+use Rattle.std.proofs.Common.{◌∙◌, ap, sym, subst}
 use Rattle.ax_node.specs.declared.tree_data.TreeData.{TreeData}
 use Rattle.ax_mirror.specs.Placed.{Nodes}
 use Rattle.ax_mirror.specs.Kept.{Holds, shown}

@@ -1,12 +1,10 @@
-use Rattle.std.proofs.Common.{◌≡◌, ◌≤◌, ◌+◌, ◌∙◌, ap, sym, subst, [], ◌∷◌, ℕ, List, length, arith, Ok}
+use Rattle.std.proofs.Common.{◌∙◌, ap, sym, subst, [], ◌∷◌}
 use Rattle.ax_node.specs.declared.tree_data.TreeData.{TreeData}
-use Rattle.ax_tree.specs.Tree.{Tree, empty}
-use Rattle.ax_tree.specs.Updates.{applied, applied_all}
-use Rattle.ax_tree.specs.declared.update.TreeUpdate.{TreeUpdate}
-use Rattle.ax_trees.specs.Trees.{bare}
+use Rattle.ax_tree.specs.Tree.{Tree}
+use Rattle.ax_tree.specs.Updates.{applied}
 use Rattle.ax_mirror.specs.Kept.{shown}
-use Rattle.ax_mirror.specs.Mirrors.{with_about, NamesChanges, RefusedAs, BrokenAs, Applies, IsBroken}
-use Rattle.ax_mirror.specs.Accounts.{NamesOnly, TouchesOnly}
+use Rattle.ax_mirror.specs.Mirrors.{with_about, NamesChanges, RefusedAs}
+use Rattle.ax_mirror.specs.Accounts.{NamesOnly}
 use Rattle.ax_mirror.proofs.Bundles.{mirror_holds, mirror_is, mirror_names, mirror_only, mirror_refused}
 use Rattle.ax_mirror.proofs.mirrored.Mirror.unserialize_counted.Goals as goal
 

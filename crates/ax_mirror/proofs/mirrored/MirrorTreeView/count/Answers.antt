@@ -1,4 +1,4 @@
-use Rattle.std.proofs.Common.{◌≡◌, ◌∙◌, ap}
+use Rattle.std.proofs.Common.{◌∙◌, ap}
 use Rattle.ax_trees.specs.Trees.{count}
 use Rattle.ax_tree.specs.Tree.{Tree}
 use Rattle.ax_mirror.specs.Kept.{shown}

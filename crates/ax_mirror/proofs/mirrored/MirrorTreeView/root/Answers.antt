@@ -1,4 +1,4 @@
-use Rattle.std.proofs.Common.{◌≡◌, ◌∙◌, ap, subst}
+use Rattle.std.proofs.Common.{◌∙◌, ap, subst}
 use Rattle.ax_trees.specs.Trees.{IsTree, root_of}
 use Rattle.ax_tree.specs.Tree.{Tree}
 use Rattle.ax_mirror.specs.Kept.{shown}
