@@ -1,0 +1,108 @@
+use crate::replay_text;
+use ax_ask::{BrowserOp, FrameOp, TimedOp};
+use ax_base::{Ids, NodeId, TreeId};
+use ax_node::NodeData;
+use ax_tree::{Edit, Nodes, SetTree, TreeUpdate};
+use std::alloc::Global;
+use std::test::Fail;
+
+fn id(n: u32) -> Result<NodeId, Fail> {
+    Ok(NodeId::new(n).ok_or("no id")?)
+}
+
+fn insert(alloc: Global, parent: u32, index: usize, node: u32) -> Result<FrameOp, Fail> {
+    Ok(FrameOp::Edit(Edit::Insert {
+        parent: id(parent)?,
+        index,
+        node: NodeData::blank(alloc, id(node)?),
+    }))
+}
+
+fn loaded() -> FrameOp {
+    FrameOp::Edit(Edit::Tree(SetTree {
+        parent: None,
+        focused: None,
+        loaded: Some(true),
+        focus: None,
+        anchor: None,
+        end: None,
+        title: None,
+        url: None,
+    }))
+}
+
+// A leaf in the place of node 2.
+fn probe(alloc: Global, tree: TreeId) -> Result<TimedOp, Fail> {
+    let mut nodes = Nodes::new(alloc);
+    nodes.push(NodeData::blank(alloc, id(2)?))?;
+    let update = TreeUpdate {
+        clear: None,
+        root: None,
+        nodes,
+        tree_data: None,
+    };
+    Ok(TimedOp {
+        after: 0,
+        op: BrowserOp::Probe(tree, update),
+    })
+}
+
+const TEXT: &str = "finale
+f1 root 1 ok
+f1 insert 2 ok
+f1 insert 3 ok
+f1 pass 1 base 0 token 0
+  u clear 0 root 1 list 1 2 3 data
+f1 move 3 ok
+f1 remove 9 UnknownNode 9
+f1 touch 1 ok
+f1 touch_below 8 UnknownNode 8
+f1 data ok
+f1 pass 2 base 0 token 0
+  u clear 0 root 1 list 1 2 3 data
+f1 pass nothing
+f1 insert 4 ok
+a1 applied 1
+a1 applied 2
+b probe 1 accepted 2
+b ask 1 token 1
+d1:1
+f1 pass 3 base 0 token 1
+  u clear 0 root 1 list 1 2 3 4 data
+a1 applied 3
+dump
+tree 1 parent 0 focused 0 loaded yes focus 0 sel 0 0 0 0 title \"\" url \"\"
+1 generic
+  2 generic
+    3 generic
+      4 generic
+";
+
+#[test]
+fn replay(rt: HostRuntime) -> Result<(), Fail> {
+    let tree = TreeId::new(1).ok_or("no tree")?;
+    let mut ops = Vec::new(rt.alloc());
+    ops.push(FrameOp::Edit(Edit::Root(NodeData::blank(
+        rt.alloc(),
+        id(1)?,
+    ))))?;
+    ops.push(insert(rt.alloc(), 1, 0, 2)?)?;
+    ops.push(insert(rt.alloc(), 1, 1, 3)?)?;
+    ops.push(FrameOp::Pass)?;
+    ops.push(FrameOp::Edit(Edit::Move {
+        node: id(3)?,
+        parent: id(2)?,
+        index: 0,
+    }))?;
+    ops.push(FrameOp::Edit(Edit::Remove(id(9)?)))?;
+    ops.push(FrameOp::Touch(id(1)?))?;
+    ops.push(FrameOp::TouchBelow(id(8)?))?;
+    ops.push(loaded())?;
+    ops.push(FrameOp::Pass)?;
+    ops.push(FrameOp::Pass)?;
+    ops.push(insert(rt.alloc(), 3, 0, 4)?)?;
+    let probes = [probe(rt.alloc(), tree)?];
+    let text = replay_text(rt.alloc(), tree, ops.as_slice(), probes.as_slice())?;
+    assert_eq!(rt; text.as_slice(), TEXT.as_bytes());
+    Ok(())
+}
