@@ -1,20 +1,24 @@
 -- What an edit tells, and the marks that are left.
-use Rattle.std.proofs.Common.{ℕ, ◌≡◌, ◌≢◌, ◌<◌, ◌≤◌, Bool, true, false, not, List, [], ◌∷◌, length, slice_get, refl, sym, ap, ◌∙◌, arith, Option, None, Some}
+use Rattle.std.proofs.Common.{ℕ, ◌≡◌, ◌<◌, ◌≤◌, Bool, false, not, List, [], ◌∷◌, length, slice_get, refl, sym, ◌∙◌, arith, None, Some}
 use Rattle.std.specs.Prelude.{filter, nat_eq}
 use Rattle.ax_client.specs.MarkList.{without}
+use Rattle.ax_trees.specs.Trees.{has}
+use Rattle.ax_store.proofs.Walking.{tree_at_none}
 use Rattle.ax_tree.specs.declared.edit.Edit.{Edit}
 use Rattle.ax_tree.specs.declared.edit.EditErr.{EditErr}
-use Rattle.ax_tree.specs.declared.edit.EditErr.TheVariants as errors
-use Rattle.ax_tree.specs.Tree.{Tree}
-use Rattle.ax_tree.specs.Edits.{refusal, IsRefusal}
+use Rattle.ax_tree.specs.Edits.{refusal}
 use Rattle.ax_source.specs.Source.{Source, after_edit}
-use Rattle.ax_replay.specs.Sending.{edit_taken}
+use Rattle.ax_replay.specs.Sending.{edit_taken, marked_below}
 
 pub accepted : (e : Edit) (s n : Source) → n ≡ after_edit e s → refusal e s.tree ≡ None → n ≡ edit_taken e s
 accepted e s n h q = rw q h
 
 pub stayed : (e : Edit) (s n : Source) (r : EditErr) → n ≡ s → refusal e s.tree ≡ Some r → n ≡ edit_taken e s
 stayed e s n r h q = rw q h
+
+-- a mark of all below an id that isn't there adds nothing
+pub none_below : (z : ℕ) (s n : Source) → has s.tree.trees z ≡ false → n ≡ s → n ≡ marked_below z s
+none_below z s n h e = e ∙ sym (rw (tree_at_none s.tree.trees z h) refl)
 
 -- one mark fewer
 at_most : (p : ℕ → Bool) (xs : List ℕ) → length (filter p xs) ≤ length xs

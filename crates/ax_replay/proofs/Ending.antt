@@ -1,5 +1,5 @@
 -- What comes after all operations, and the whole text.
-use Rattle.std.proofs.Common.{ℕ, suc, ◌≡◌, ◌≤◌, Bool, true, false, List, [], ◌∷◌, ◌++◌, append_assoc, append-nil, refl, sym, ap, ap₂, ◌∙◌, subst, arith, Some}
+use Rattle.std.proofs.Common.{ℕ, suc, ◌≡◌, ◌≤◌, true, false, List, [], ◌∷◌, ◌++◌, append_assoc, append-nil, refl, sym, ap, ap₂, ◌∙◌, Some}
 use Rattle.std.specs.Prelude.{codes}
 use Rattle.ax_trees.specs.Trees.{height}
 use Rattle.ax_trees.proofs.Trees.{by_go}
@@ -17,7 +17,7 @@ use Rattle.ax_replay.specs.declared.sender.Sender.{Sender}
 use Rattle.ax_replay.specs.Only.{one_tree}
 use Rattle.ax_replay.specs.Replay.{replay_text, op_lines, after_ops, whole_note, receipt_line, receipt_lines, probe_lines, refresh_lines, end_lines, last_mirror}
 use Rattle.ax_replay.specs.Sending.{outline, frame_in, Fits, Becomes}
-use Rattle.ax_replay.proofs.Texts.{lines_cons, lines_one, lines_more, no_lines}
+use Rattle.ax_replay.proofs.Texts.{lines_more, no_lines}
 
 -- ---- a last pass
 
@@ -33,12 +33,11 @@ ending : (t : ℕ) (f : Frame) (os : List TimedOp) (a b c : List ℕ) → b ≡ 
     → c ≡ a ++ (lines_text (receipt_lines t 1 f.passes) ++ lines_text (probe_lines f.sent os))
 ending t f os a b c g h = h ∙ (ap (λ xs. xs ++ lines_text (probe_lines f.sent os)) g ∙ append_assoc a (lines_text (receipt_lines t 1 f.passes)) (lines_text (probe_lines f.sent os)))
 
-end_split : (t : ℕ) (f : Frame) (os : List TimedOp) (last : List Line) → lines_text (receipt_lines t 1 f.passes ++ (probe_lines f.sent os ++ last))
+end_split : (t : ℕ) (f : Frame) (os : List TimedOp) (last : List Line) → lines_text (receipt_lines t 1 f.passes ++ probe_lines f.sent os ++ last)
     ≡ (lines_text (receipt_lines t 1 f.passes) ++ lines_text (probe_lines f.sent os)) ++ lines_text last
 end_split t f os last =
-    lines_more (receipt_lines t 1 f.passes) (probe_lines f.sent os ++ last)
-    ∙ (ap (λ xs. lines_text (receipt_lines t 1 f.passes) ++ xs) (lines_more (probe_lines f.sent os) last)
-    ∙ sym (append_assoc (lines_text (receipt_lines t 1 f.passes)) (lines_text (probe_lines f.sent os)) (lines_text last)))
+    lines_more (receipt_lines t 1 f.passes ++ probe_lines f.sent os) last
+    ∙ ap (λ xs. xs ++ lines_text last) (lines_more (receipt_lines t 1 f.passes) (probe_lines f.sent os))
 
 pub end_pending : (t : ℕ) (f : Frame) (os : List TimedOp) (a b c d : List ℕ) → pending f ≡ true → b ≡ a ++ lines_text (receipt_lines t 1 f.passes) → c ≡ b ++ lines_text (probe_lines f.sent os)
     → d ≡ c ++ lines_text (refresh_lines t f) → d ≡ a ++ lines_text (end_lines t f os)
@@ -78,6 +77,9 @@ end_outline t f os = refl
 one_of : (t : ℕ) (m : Tree) → m.about.tree ≡ t → one_tree m ≡ record { id = t; tree = Some m } ∷ []
 one_of t m e = rw e refl
 
+glued : (f o n u m a b c d e : List ℕ) → a ≡ f → b ≡ a ++ o → c ≡ b ++ n → d ≡ c ++ u → e ≡ d ++ m → e ≡ f ++ ((o ++ n) ++ (u ++ m))
+glued f o n u m a b c d e ha hb hc hd he = rw (he, hd, hc, hb, ha) (simp append_assoc)
+
 pub whole : (t : ℕ) (todo : List FrameOp) (os : List TimedOp) (s n : Sender) (m : Tree) (a b c d e : List ℕ) → s.tree ≡ t → frame_in s ≡ new_frame t
     → Becomes s (after_ops s.tree (frame_in s) todo) n → a ≡ [] ++ codes "finale\n" → b ≡ a ++ lines_text (op_lines s.tree (frame_in s) todo) → c ≡ b ++ lines_text (end_lines n.tree (frame_in n) os)
     → d ≡ c ++ codes "dump\n" → m ≡ last_mirror (frame_in n) → e ≡ d ++ dump_text (one_tree m) → e ≡ replay_text t todo os
@@ -89,8 +91,11 @@ whole t todo os s n m a b c d e st new become ha hb hc hd hm he =
     let ends_are : end_lines n.tree (frame_in n) os ≡ end_lines t f os = ap₂ (λ u g. end_lines u g os) (become.tree ∙ st) frame ∙ end_outline t f os in
     let mirror : m ≡ last_mirror f = hm ∙ ap last_mirror frame in
     let named : m.about.tree ≡ t = ap (λ (x : Tree). x.about.tree) hm ∙ (last_tree n become.fits ∙ (become.tree ∙ st)) in
-    let dump : dump_text (one_tree m) ≡ dump_text (record { id = t; tree = Some (last_mirror f) } ∷ []) =
-    ap dump_text (one_of t m named ∙ ap (λ x. record { id = t; tree = Some x } ∷ []) mirror) in
-    rw (he, hd, hc, hb, ha, ops_are, ends_are, dump, lines_more (op_lines t (new_frame t) todo) (end_lines t f os)) (simp append_assoc)
+    let last : List ℕ = dump_text (record { id = t; tree = Some (last_mirror f) } ∷ []) in
+    let dump : dump_text (one_tree m) ≡ last = ap dump_text (one_of t m named ∙ ap (λ x. record { id = t; tree = Some x } ∷ []) mirror) in
+    let parts : e ≡ codes "finale\n" ++ ((lines_text (op_lines t (new_frame t) todo) ++ lines_text (end_lines t f os)) ++ (codes "dump\n" ++ last)) =
+    glued (codes "finale\n") (lines_text (op_lines t (new_frame t) todo)) (lines_text (end_lines t f os)) (codes "dump\n") last a b c d e ha
+    (hb ∙ ap (λ ls. a ++ lines_text ls) ops_are) (hc ∙ ap (λ ls. b ++ lines_text ls) ends_are) hd (he ∙ ap (λ xs. d ++ xs) dump) in
+    parts ∙ ap (λ xs. codes "finale\n" ++ (xs ++ (codes "dump\n" ++ last))) (sym (lines_more (op_lines t (new_frame t) todo) (end_lines t f os)))
 
 pub ruleset ends = (refreshed, end_pending, end_quiet, mirror_pending, mirror_quiet, last_low, whole)

@@ -1,5 +1,5 @@
 -- A sender is its frame, step by step.
-use Rattle.std.proofs.Common.{ℕ, suc, ◌≡◌, ◌≤◌, ◌+◌, Bool, true, false, List, [], ◌∷◌, ◌++◌, refl, sym, ap, ap₂, ◌∙◌, subst, arith, Option, None, Some, Result, Ok, Err, OnOk, IfOk}
+use Rattle.std.proofs.Common.{ℕ, suc, ◌≡◌, ◌≤◌, ◌+◌, Bool, true, false, List, [], ◌∷◌, refl, sym, ap, ap₂, ◌∙◌, subst, arith, Result, Ok, Err, OnOk}
 use Rattle.std.specs.Prelude.{is_none}
 use Rattle.ax_base.specs.declared.seq.NoMemory.{NoMemory}
 use Rattle.ax_trees.specs.Trees.{is_bare, has}
@@ -75,7 +75,7 @@ becomes s n e same is fits = record {
   fits = subst (λ t. IsInStep t (frame_in n)) (sym same) (subst (λ g. IsInStep s.tree g) (sym is) (in_step s.tree (after_entry s.tree e (frame_in s)) (kept_entry s.tree e (frame_in s) (kept s.tree (frame_in s) fits))));
 }
 
-frame_of_parts : Source → Tree → ℕ → Frame
+abbrev frame_of_parts : Source → Tree → ℕ → Frame
 frame_of_parts src m p = record { source = src.tree; marks = src.marks; flag = src.changed; sent = m; passes = p; token = 0; slip = []; short = false }
 
 by_parts : (n : Sender) (src : Source) (m : Tree) (p : ℕ) → n.source ≡ src → n.mirror ≡ m → n.passes ≡ p → frame_in n ≡ frame_of_parts src m p
@@ -121,8 +121,8 @@ sent s n q fits a b c d =
     subst (λ g. Becomes s g n) same
     (becomes s n entries.Passed a (by_parts n (record s.source { marks = []; changed = false }) s.source.tree (suc s.passes) b c d ∙ sym (ap outline same)) fits)
 
-ok_same : {E : Type 0} (a b : Tree) → Ok {_} {E} a ≡ Ok b → a ≡ b
-ok_same a b h = cc
+ok_same : {E : Type 0} (a b : Tree) (r : Result Tree E) → r ≡ Ok a → r ≡ Ok b → a ≡ b
+ok_same a b r g h = cc
 
 pub received : (s : Sender) (us : List TreeUpdate) (u : TreeUpdate) (m : Tree) → Fits s → pending (frame_in s) ≡ true → us ≡ u ∷ [] → u ≡ whole_update s.source.tree
     → applied_all us (empty s.mirror.about.tree) ≡ Ok m → m ≡ s.source.tree
@@ -130,7 +130,7 @@ received s us u m fits q a b h =
     let rooted : is_bare s.source.tree.trees ≡ false = grind (arith, q) in
     let gives = whole_gives s.source.tree fits.step.trees.source fits.step.trees.source_low rooted in
     let listed : us ≡ whole_update s.source.tree ∷ [] = a ∙ ap (λ x. x ∷ []) b in
-    ok_same m s.source.tree (sym h ∙ (ap₂ (λ xs t. applied_all xs (empty t)) listed fits.step.same_tree ∙ gives))
+    ok_same m s.source.tree (applied_all us (empty s.mirror.about.tree)) h (ap₂ (λ xs t. applied_all xs (empty t)) listed fits.step.same_tree ∙ gives)
 
 -- ---- what search uses
 
@@ -143,10 +143,10 @@ note_made f b m h q e = let yes : pending f ≡ true = sym h ∙ q in rw yes (ap
 pub note_is : (f : Frame) (u : TreeUpdate) (token p : ℕ) (n : MadeNote) → p ≡ f.passes + 1 → u ≡ whole_update f.source
     → n ≡ record { pass = record { 0 = p }; base = record { 0 = 0 }; token = record { 0 = token }; resumed = false; updates = update_note u ∷ [] } → n ≡ whole_note token f
 unfolding whole_note
-note_is f u token p n a b e = e ∙ (rw (a, b) refl)
+note_is f u token p n a b e = let next : p ≡ suc f.passes = omega (arith, a) in e ∙ (rw (next, b) refl)
 
 pub send_done : (s n : Sender) (us : List TreeUpdate) (u : TreeUpdate) → pending (frame_in s) ≡ true → Fits s → n.tree ≡ s.tree → n.source ≡ record s.source { marks = []; changed = false }
     → us ≡ u ∷ [] → u ≡ whole_update s.source.tree → applied_all us (empty s.mirror.about.tree) ≡ Ok n.mirror → n.passes ≡ s.passes + 1 → Becomes s (after_packet (frame_in s)) n
-send_done s n us u q fits a b c d e p = sent s n q fits a b (received s us u n.mirror fits q c d e) p
+send_done s n us u q fits a b c d e p = let next : n.passes ≡ suc s.passes = omega (arith, p) in sent s n q fits a b (received s us u n.mirror fits q c d e) next
 
 pub ruleset steps = (edit_step, mark_step, mark_below_step, stays, passed, note_nothing, note_made, note_is, send_done, new_fits)

@@ -1,7 +1,8 @@
 -- The nodes of all ids in pre-order are all nodes.
-use Rattle.std.proofs.Common.{ℕ, ◌≡◌, Bool, true, false, ◌||◌, List, [], ◌∷◌, ◌++◌, refl, sym, ap, ap₂, ◌∙◌, subst, arith, eqb, cond, Option, Some, None, flat_map, map, option_map, Result, Ok, Err, IfOk}
+use Rattle.std.proofs.Common.{ℕ, ◌≡◌, true, false, List, [], ◌∷◌, ◌++◌, refl, sym, ap, ap₂, ◌∙◌, arith, eqb, Option, Some, None, flat_map, map, option_map, Result, Ok, Err, IfOk}
 use Rattle.std.specs.Prelude.{option_to_list}
 use Rattle.std.proofs.lemmas.Bool.Decides.{eqb_tells}
+use Rattle.std.proofs.lemmas.List.Concat.{flat_map-append}
 use Rattle.ax_base.specs.declared.seq.NoMemory.{NoMemory}
 use Rattle.ax_node.specs.Look.{Look}
 use Rattle.ax_node.specs.declared.node.NodeData.{NodeData}
@@ -12,15 +13,11 @@ use Rattle.ax_tree.specs.SerialRule.{all_of}
 use Rattle.ax_replay.specs.Replay.{whole_update}
 use Rattle.ax_replay.specs.Sending.{node_list}
 
-append_maps : (f : ℕ → List NodeData) (xs ys : List ℕ) → flat_map f (xs ++ ys) ≡ flat_map f xs ++ flat_map f ys
-append_maps f [] ys = refl
-append_maps f (x ∷ xs) ys = grind (arith, append_maps f xs ys)
-
 map_both : (xs ys : List (Node Look)) → map data_of (xs ++ ys) ≡ map data_of xs ++ map data_of ys
 map_both [] ys = refl
 map_both (x ∷ xs) ys = ap (λ zs. data_of x ∷ zs) (map_both xs ys)
 
-told_by : (ℕ → Option (Node Look)) → ℕ → List NodeData
+abbrev told_by : (ℕ → Option (Node Look)) → ℕ → List NodeData
 told_by g z = option_to_list (option_map data_of (g z))
 
 told_all : (g : ℕ → Option (Node Look)) (f : Trees Look) → IsDistinct f → ((z : ℕ) → has f z ≡ true → g z ≡ node_at f z)
@@ -36,7 +33,7 @@ told_all g (tree i x k r) d h =
     (λ z t. let no : eqb i z ≡ false = grind (arith, eqb_tells i z, d.1, t) in
     let out : has k z ≡ false = grind (arith, d.2.apart z, t) in h z (rw (no, out, t) refl) ∙ rw (no, out) refl) in
     ap₂ (λ (o : Option (Node Look)) ns. option_to_list (option_map data_of o) ++ ns) at
-    (append_maps (told_by g) (ids k) (ids r) ∙ (ap₂ (λ xs ys. xs ++ ys) inner later ∙ sym (map_both (all_of k) (all_of r))))
+    (flat_map-append (told_by g) (ids k) (ids r) ∙ (ap₂ (λ xs ys. xs ++ ys) inner later ∙ sym (map_both (all_of k) (all_of r))))
 
 root_tree : (f : Trees Look) (r : ℕ) → IsTree f → root_of f ≡ Some r → tree_at f r ≡ f
 root_tree bare r w e = refl

@@ -1,5 +1,5 @@
 -- A forest of one tree: it hangs nowhere, and nothing hangs in it.
-use Rattle.std.proofs.Common.{ℕ, ◌≡◌, Bool, true, false, ◌||◌, eqb, List, [], ◌∷◌, ◌++◌, refl, sym, ap, ◌∙◌, arith, Option, None, Some, Result, Ok, Err, OnOk, if◌then◌else◌, option_and_then}
+use Rattle.std.proofs.Common.{ℕ, ◌≡◌, Bool, true, false, ◌||◌, eqb, List, [], ◌∷◌, ◌++◌, refl, arith, None, Some, Result, Ok, Err, OnOk, if◌then◌else◌, option_and_then}
 use Rattle.ax_base.specs.declared.position.Place.{Place}
 use Rattle.ax_base.specs.declared.seq.NoMemory.{NoMemory}
 use Rattle.ax_trees.specs.Trees.{is_bare}

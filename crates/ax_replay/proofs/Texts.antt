@@ -1,7 +1,6 @@
 -- The text of a replay, line by line.
-use Rattle.std.proofs.Common.{ℕ, suc, ◌≡◌, ◌≤◌, ◌<◌, ◌+◌, ◌-◌, true, false, List, [], ◌∷◌, ◌++◌, length, take, drop, get_or, drop-cons, append_assoc, append-nil, refl, sym, ap, ap₂, ◌∙◌, subst, arith, flat_map, Result, Ok, Err, OnOk}
+use Rattle.std.proofs.Common.{ℕ, suc, ◌≡◌, ◌≤◌, ◌<◌, ◌+◌, ◌-◌, List, [], ◌∷◌, ◌++◌, zero, length, drop, get_or, drop-cons, append_assoc, append-nil, refl, sym, ap, ap₂, ◌∙◌, subst, arith}
 use Rattle.std.proofs.lemmas.List.Concat.{flat_map-append}
-use Rattle.ax_base.specs.declared.seq.NoMemory.{NoMemory}
 use Rattle.ax_tree.specs.Tree.{Tree}
 use Rattle.ax_tree.specs.Journals.{Frame, after_entry}
 use Rattle.ax_ask.specs.declared.op.FrameOp.{FrameOp}
@@ -32,9 +31,13 @@ unfolding lines_text
 lines_more xs ys = flat_map-append line_text xs ys
 
 past : {A : Type 0} (xs : List A) (k : ℕ) → length xs ≤ k → drop k xs ≡ []
-past [] k h = grind (arith)
-past (x ∷ xs) 0 h = absurd (omega arith)
+past [] zero h = refl
+past [] (suc k) h = refl
+past (x ∷ xs) zero h = absurd (omega arith)
 past (x ∷ xs) (suc k) h = past xs k (omega arith)
+
+next_cons : {A : Type 0} (xs : List A) (k : ℕ) (x : A) → k < length xs → x ≡ get_or xs k x → drop k xs ≡ x ∷ drop (k + 1) xs
+next_cons xs k x h is = let one : suc k ≡ k + 1 = omega arith in drop-cons xs k x h ∙ ap₂ (λ y n. y ∷ drop n xs) (sym is) one
 
 -- ---- the operations
 
@@ -60,17 +63,17 @@ one_more t first s n ops rest op k line before bytes later d l b e =
     record {
       tree = b.tree ∙ d.tree;
       text = ap₂ (λ xs ls. xs ++ lines_text ls) e lines
-      ∙ (append_assoc bytes (line_text line) (lines_text (op_lines t g rest))
-      ∙ (ap (λ x. bytes ++ (line_text x ++ lines_text (op_lines t g rest))) here
-      ∙ (ap (λ xs. bytes ++ xs) (sym (lines_cons (op_line t (frame_in s) op) (op_lines t g rest))) ∙ d.text)));
+          ∙ (append_assoc bytes (line_text line) (lines_text (op_lines t g rest))
+          ∙ (ap (λ x. bytes ++ (line_text x ++ lines_text (op_lines t g rest))) here
+          ∙ (ap (λ xs. bytes ++ xs) (sym (lines_cons (op_line t (frame_in s) op) (op_lines t g rest))) ∙ d.text)));
       after = ap (λ f. outline (after_ops t f rest)) is ∙ (after_outline t rest g ∙ d.after);
       fits = b.fits;
       leaves = d.leaves.1;
       passes =
-        let p : n.passes ≡ g.passes = ap (λ (f : Frame). f.passes) is in
-        let q : g.passes ≤ s.passes + 1 = one_pass_more t op (frame_in s) in
-        let r : s.passes ≤ first.passes + k = d.passes in
-        omega arith;
+          let p : n.passes ≡ g.passes = ap (λ (f : Frame). f.passes) is in
+          let q : g.passes ≤ s.passes + 1 = one_pass_more t op (frame_in s) in
+          let r : s.passes ≤ first.passes + k = d.passes in
+          omega arith;
     }
 
 pub ops_more : (t : ℕ) (first s n : Sender) (ops : List FrameOp) (op : FrameOp) (k : ℕ) (line : Line) (before bytes later : List ℕ) → k < length ops → op ≡ get_or ops k op
@@ -78,14 +81,14 @@ pub ops_more : (t : ℕ) (first s n : Sender) (ops : List FrameOp) (op : FrameOp
     → line ≡ op_line s.tree (frame_in s) op → Becomes s (after_entry s.tree (entry_of op) (frame_in s)) n → later ≡ bytes ++ line_text line
     → OpsDone t first n ops (drop (k + 1) ops) (k + 1) before later
 ops_more t first s n ops op k line before bytes later h is d l b e =
-    let next : drop k ops ≡ op ∷ drop (k + 1) ops = drop-cons ops k op h ∙ ap (λ x. x ∷ drop (k + 1) ops) (sym is) in
+    let next : drop k ops ≡ op ∷ drop (k + 1) ops = next_cons ops k op h is in
     one_more t first s n ops (drop (k + 1) ops) op k line before bytes later (subst (λ xs. OpsDone t first s ops xs k before bytes) next d) l b e
 
 -- the next operation has a leaf
 pub next_leaf : (t : ℕ) (first s : Sender) (ops : List FrameOp) (op : FrameOp) (k : ℕ) (before bytes : List ℕ) → k < length ops → op ≡ get_or ops k op
     → OpsDone t first s ops (drop k ops) k before bytes → IsLeafOp op
 next_leaf t first s ops op k before bytes h is d =
-    let next : drop k ops ≡ op ∷ drop (k + 1) ops = drop-cons ops k op h ∙ ap (λ x. x ∷ drop (k + 1) ops) (sym is) in
+    let next : drop k ops ≡ op ∷ drop (k + 1) ops = next_cons ops k op h is in
     (subst HaveLeaves next d.leaves).0
 
 ended : (t : ℕ) (first s : Sender) (ops rest : List FrameOp) (k : ℕ) (before bytes : List ℕ) → rest ≡ [] → OpsDone t first s ops rest k before bytes
@@ -112,12 +115,15 @@ pub receipts_more : (t k n : ℕ) (before bytes later : List ℕ) → k < n → 
     → later ≡ bytes ++ lines_text (receipt_line t (k + 1) ∷ []) → later ++ lines_text (receipt_lines t (k + 1 + 1) (n - (k + 1))) ≡ before ++ lines_text (receipt_lines t 1 n)
 receipts_more t k n before bytes later h d e =
     let less : n - k ≡ suc (n - (k + 1)) = omega arith in
+    let next : k + 1 + 1 ≡ suc (k + 1) = omega arith in
     let one = receipt_line t (k + 1) in
     let left = receipt_lines t (k + 1 + 1) (n - (k + 1)) in
+    let split : receipt_lines t (k + 1) (n - k) ≡ one ∷ left =
+    ap (receipt_lines t (k + 1)) less ∙ ap (λ j. one ∷ receipt_lines t j (n - (k + 1))) (sym next) in
     ap (λ xs. xs ++ lines_text left) e
     ∙ (append_assoc bytes (lines_text (one ∷ [])) (lines_text left)
     ∙ (ap (λ xs. bytes ++ (xs ++ lines_text left)) (lines_one one)
-    ∙ (ap (λ xs. bytes ++ xs) (sym (lines_cons one left)) ∙ (ap (λ m. bytes ++ lines_text (receipt_lines t (k + 1) m)) (sym less) ∙ d))))
+    ∙ (ap (λ xs. bytes ++ xs) (sym (lines_cons one left)) ∙ (ap (λ ls. bytes ++ lines_text ls) (sym split) ∙ d))))
 
 pub receipts_end : (t k n : ℕ) (before bytes : List ℕ) → n ≤ k → bytes ++ lines_text (receipt_lines t (k + 1) (n - k)) ≡ before ++ lines_text (receipt_lines t 1 n)
     → bytes ≡ before ++ lines_text (receipt_lines t 1 n)
@@ -131,7 +137,7 @@ pub probes_more : (m : Tree) (os : List TimedOp) (o : TimedOp) (k : ℕ) (before
     → bytes ++ lines_text (probe_lines m (drop k os)) ≡ before ++ lines_text (probe_lines m os)
     → later ≡ bytes ++ lines_text (browser_lines m o.op) → later ++ lines_text (probe_lines m (drop (k + 1) os)) ≡ before ++ lines_text (probe_lines m os)
 probes_more m os o k before bytes later h is d e =
-    let next : drop k os ≡ o ∷ drop (k + 1) os = drop-cons os k o h ∙ ap (λ x. x ∷ drop (k + 1) os) (sym is) in
+    let next : drop k os ≡ o ∷ drop (k + 1) os = next_cons os k o h is in
     let left = probe_lines m (drop (k + 1) os) in
     ap (λ xs. xs ++ lines_text left) e
     ∙ (append_assoc bytes (lines_text (browser_lines m o.op)) (lines_text left)

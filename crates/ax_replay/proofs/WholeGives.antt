@@ -1,10 +1,9 @@
 -- The whole source in one update is the bundle for a receiver that has nothing.
-use Rattle.std.proofs.Common.{ℕ, ◌≡◌, ◌≤◌, false, true, [], ◌∷◌, Ok, refl, sym, ap, ◌∙◌}
+use Rattle.std.proofs.Common.{◌≡◌, ◌≤◌, false, [], ◌∷◌, Ok, refl, sym, ap, ◌∙◌}
 use Rattle.ax_node.specs.declared.tree_data.TreeData.{TreeData}
 use Rattle.ax_node.specs.Look.{Look}
-use Rattle.ax_trees.specs.Trees.{Trees, bare, tree, is_bare, height, IsTree}
+use Rattle.ax_trees.specs.Trees.{Trees, bare, tree, is_bare, height}
 use Rattle.ax_tree.specs.Tree.{Tree, IsWellFormed, empty}
-use Rattle.ax_tree.specs.Bundles.{trees_updates}
 use Rattle.ax_tree.specs.Serialised.{bundle_of}
 use Rattle.ax_tree.specs.Updates.{applied_all}
 use Rattle.ax_laws.proofs.FrameSteps.{self_in_step, delivery_in_step}

@@ -1,5 +1,5 @@
 -- What holds of an update with the whole source.
-use Rattle.std.specs.Prelude.{ℕ, ◌≡◌, ◌≤◌, false, [], ◌∷◌, Ok}
+use Rattle.std.specs.Prelude.{◌≡◌, ◌≤◌, false, [], ◌∷◌, Ok}
 use Rattle.ax_trees.specs.Trees.{is_bare, height}
 use Rattle.ax_tree.specs.Tree.{Tree, IsWellFormed, empty}
 use Rattle.ax_tree.specs.Updates.{applied_all}

@@ -1,5 +1,5 @@
 -- One tree as a forest.
-use Rattle.std.specs.Prelude.{List, [], ◌∷◌, Some}
+use Rattle.std.specs.Prelude.{[], ◌∷◌, Some}
 use Rattle.ax_tree.specs.Tree.{Tree}
 use Rattle.ax_tree.specs.Forest.{Forest}
 

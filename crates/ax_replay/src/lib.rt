@@ -7,10 +7,9 @@
 mod only;
 mod replay;
 mod sender;
-mod whole;
-
 #[cfg(test)]
 mod tests;
+mod whole;
 
 ghost use Rattle.ax_replay.specs.Laws.{WholeUpdateGivesSource};
 

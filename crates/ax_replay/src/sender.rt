@@ -189,6 +189,7 @@ fn touch(source: &mut SourceTree, tree: TreeId, node: NodeId) -> Result<Line, No
 }
 
 /// Marks a node and all below it, and gives the line.
+#[tactic(auto, using(crate::proofs::Edits::none_below))]
 fn touch_below(source: &mut SourceTree, tree: TreeId, node: NodeId) -> Result<Line, NoMemory>
     ensures line { IfOk result (λ l. l ≡ lines.Touched tree true node (mark_refusal source.old.tree node)) }
     ensures after { OnOk result (source.new ≡ marked_below node source.old) }

@@ -82,10 +82,7 @@ tree 1 parent 0 focused 0 loaded yes focus 0 sel 0 0 0 0 title \"\" url \"\"
 fn replay(rt: HostRuntime) -> Result<(), Fail> {
     let tree = TreeId::new(1).ok_or("no tree")?;
     let mut ops = Vec::new(rt.alloc());
-    ops.push(FrameOp::Edit(Edit::Root(NodeData::blank(
-        rt.alloc(),
-        id(1)?,
-    ))))?;
+    ops.push(FrameOp::Edit(Edit::Root(NodeData::blank(rt.alloc(), id(1)?))))?;
     ops.push(insert(rt.alloc(), 1, 0, 2)?)?;
     ops.push(insert(rt.alloc(), 1, 1, 3)?)?;
     ops.push(FrameOp::Pass)?;
