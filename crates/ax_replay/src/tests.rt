@@ -49,6 +49,7 @@ fn shaped(alloc: Global, shape: &Shape) -> Result<NodeData, Fail> {
 }
 
 /// The mirror that one update with tree data makes of nothing.
+#[tactic(auto, using(crate::proofs::Taken::applied_low))]
 fn mirror(alloc: Global, root: u32, nodes: Nodes, about: TreeData) -> Result<Mirror, Fail>
     ensures { IfOk result (λ m. height m.trees ≤ 256) }
 {
