@@ -12,7 +12,7 @@ use std::marker::Model;
 
 /// A mirror as the only tree of a forest. No chain has more than 256 nodes.
 #[derive(Drop)]
-struct OnlyTree {
+pub(crate) struct OnlyTree {
     mirror: Mirror,
 }
 
@@ -29,6 +29,15 @@ impl Model for OnlyTree {
     ghost view = { λ s. s.mirror };
 
     ghost invariant = { λ s. height s.mirror.trees ≤ 256 };
+}
+
+impl OnlyTree {
+    pub fn new(mirror: Mirror) -> OnlyTree
+        requires { height mirror.trees ≤ 256 }
+        ensures { result ≡ mirror }
+    {
+        OnlyTree { mirror }
+    }
 }
 
 impl Grove for OnlyTree {
@@ -73,7 +82,7 @@ pub(crate) fn put_dump(mirror: Mirror, out: &mut Bytes) -> Result<(), NoMemory>
     requires { height mirror.trees ≤ 256 }
     ensures { OnOk result (out.new.items ≡ out.old.items ++ dump_text (one_tree mirror)) }
 {
-    let only = OnlyTree { mirror };
+    let only = OnlyTree::new(mirror);
     let trees = [only.first()];
     dump_text(&only, trees.as_slice(), out)
 }

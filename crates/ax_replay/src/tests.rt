@@ -1,13 +1,67 @@
+ghost use Rattle.std.specs.Prelude.{◌≤◌, IfOk};
+ghost use Rattle.ax_trees.specs.Trees.{height};
+
 use crate::replay_text;
 use ax_ask::{BrowserOp, FrameOp, TimedOp};
-use ax_base::{Ids, NodeId, TreeId};
-use ax_node::NodeData;
+use ax_attrs::Role;
+use ax_base::{Ids, NodeId, Rect, TreeId};
+use ax_mirror::Mirror;
+use ax_node::{NodeData, TreeData};
 use ax_tree::{Edit, Nodes, SetTree, TreeUpdate};
 use std::alloc::Global;
 use std::test::Fail;
 
+mod dump;
+mod news;
+
 fn id(n: u32) -> Result<NodeId, Fail> {
     Ok(NodeId::new(n).ok_or("no id")?)
+}
+
+fn tree_id(n: u32) -> Result<TreeId, Fail> {
+    Ok(TreeId::new(n).ok_or("no id")?)
+}
+
+fn ids(alloc: Global, numbers: &[u32]) -> Result<Ids, Fail> {
+    let mut ids = Ids::new(alloc);
+    for number in numbers {
+        ids.push(id(*number)?)?;
+    }
+    Ok(ids)
+}
+
+/// A node without states and attributes. The rectangle is x, y, width and height.
+#[derive(Drop)]
+struct Shape<'a> {
+    id: u32,
+    role: Role,
+    rect: (i32, i32, i32, i32),
+    children: &'a [u32],
+}
+
+fn shaped(alloc: Global, shape: &Shape) -> Result<NodeData, Fail> {
+    let (x, y, w, h) = shape.rect;
+    let mut node = NodeData::blank(alloc, id(shape.id)?);
+    node.role = shape.role;
+    node.rect = Rect::new(x, y, w, h).ok_or("no rectangle")?;
+    node.children = ids(alloc, shape.children)?;
+    Ok(node)
+}
+
+/// The mirror that one update with tree data makes of nothing.
+#[tactic(auto, using(crate::proofs::Taken::applied_low))]
+fn mirror(alloc: Global, root: u32, nodes: Nodes, about: TreeData) -> Result<Mirror, Fail>
+    ensures { IfOk result (λ m. height m.trees ≤ 256) }
+{
+    let mut mirror = Mirror::new(alloc, about.tree);
+    let update = TreeUpdate {
+        clear: None,
+        root: NodeId::new(root),
+        nodes,
+        tree_data: Some(about),
+    };
+    mirror.unserialize(&update)?;
+    Ok(mirror)
 }
 
 fn insert(alloc: Global, parent: u32, index: usize, node: u32) -> Result<FrameOp, Fail> {
