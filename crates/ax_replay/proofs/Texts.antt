@@ -41,6 +41,10 @@ next_cons xs k x h is = let one : suc k ≡ k + 1 = omega arith in drop-cons xs 
 
 -- ---- the operations
 
+pub one_leaf_more : (ops : List FrameOp) (op : FrameOp) → HaveLeaves ops → IsLeafOp op → HaveLeaves (ops ++ op ∷ [])
+one_leaf_more [] op h leaf = (leaf, tt)
+one_leaf_more (o ∷ ops) op h leaf = (h.0, one_leaf_more ops op h.1 leaf)
+
 -- after the first k operations
 pub record OpsDone (t : ℕ) (first now : Sender) (ops rest : List FrameOp) (k : ℕ) (before bytes : List ℕ) : Type 0 where
   pub tree : now.tree ≡ t

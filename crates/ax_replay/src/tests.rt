@@ -1,5 +1,7 @@
 ghost use Rattle.std.specs.Prelude.{◌≤◌, IfOk};
 ghost use Rattle.ax_trees.specs.Trees.{height};
+ghost use Rattle.ax_ask.specs.Calls.{IsLeafOp};
+ghost use Rattle.ax_replay.specs.Sending.{HaveLeaves};
 
 use crate::replay_text;
 use ax_ask::{BrowserOp, FrameOp, TimedOp};
@@ -64,16 +66,21 @@ fn mirror(alloc: Global, root: u32, nodes: Nodes, about: TreeData) -> Result<Mir
     Ok(mirror)
 }
 
-fn insert(alloc: Global, parent: u32, index: usize, node: u32) -> Result<FrameOp, Fail> {
-    Ok(FrameOp::Edit(Edit::Insert {
-        parent: id(parent)?,
-        index,
-        node: NodeData::blank(alloc, id(node)?),
-    }))
+/// An operation in short: ids as numbers, and nodes without more.
+#[derive(Clone, Copy, Debug)]
+enum Step {
+    Root(u32),
+    Insert(u32, usize, u32),
+    Remove(u32),
+    Move(u32, u32, usize),
+    Loaded,
+    Touch(u32),
+    TouchBelow(u32),
+    Pass,
 }
 
-fn loaded() -> FrameOp {
-    FrameOp::Edit(Edit::Tree(SetTree {
+fn loaded() -> SetTree {
+    SetTree {
         parent: None,
         focused: None,
         loaded: Some(true),
@@ -82,10 +89,45 @@ fn loaded() -> FrameOp {
         end: None,
         title: None,
         url: None,
-    }))
+    }
 }
 
-// A leaf in the place of node 2.
+fn op_of(alloc: Global, step: Step) -> Result<FrameOp, Fail>
+    ensures { IfOk result (λ op. IsLeafOp op) }
+{
+    let edit = match step {
+        Step::Root(node) => Edit::Root(NodeData::blank(alloc, id(node)?)),
+        Step::Insert(parent, index, node) => Edit::Insert {
+            parent: id(parent)?,
+            index,
+            node: NodeData::blank(alloc, id(node)?),
+        },
+        Step::Remove(node) => Edit::Remove(id(node)?),
+        Step::Move(node, parent, index) => Edit::Move {
+            node: id(node)?,
+            parent: id(parent)?,
+            index,
+        },
+        Step::Loaded => Edit::Tree(loaded()),
+        Step::Touch(node) => return Ok(FrameOp::Touch(id(node)?)),
+        Step::TouchBelow(node) => return Ok(FrameOp::TouchBelow(id(node)?)),
+        Step::Pass => return Ok(FrameOp::Pass),
+    };
+    Ok(FrameOp::Edit(edit))
+}
+
+#[tactic(auto, using(crate::proofs::Texts::one_leaf_more))]
+fn ops_of(alloc: Global, steps: &[Step]) -> Result<Vec<FrameOp>, Fail>
+    ensures { IfOk result (λ ops. HaveLeaves ops.items) }
+{
+    let mut ops = Vec::new(alloc);
+    for step in steps {
+        ops.push(op_of(alloc, *step)?)?;
+    }
+    Ok(ops)
+}
+
+/// A leaf in the place of node 2.
 fn probe(alloc: Global, tree: TreeId) -> Result<TimedOp, Fail> {
     let mut nodes = Nodes::new(alloc);
     nodes.push(NodeData::blank(alloc, id(2)?))?;
@@ -100,6 +142,21 @@ fn probe(alloc: Global, tree: TreeId) -> Result<TimedOp, Fail> {
         op: BrowserOp::Probe(tree, update),
     })
 }
+
+const STEPS: [Step; 12] = [
+    Step::Root(1),
+    Step::Insert(1, 0, 2),
+    Step::Insert(1, 1, 3),
+    Step::Pass,
+    Step::Move(3, 2, 0),
+    Step::Remove(9),
+    Step::Touch(1),
+    Step::TouchBelow(8),
+    Step::Loaded,
+    Step::Pass,
+    Step::Pass,
+    Step::Insert(3, 0, 4),
+];
 
 const TEXT: &str = "finale
 f1 root 1 ok
@@ -134,24 +191,8 @@ tree 1 parent 0 focused 0 loaded yes focus 0 sel 0 0 0 0 title \"\" url \"\"
 
 #[test]
 fn replay(rt: HostRuntime) -> Result<(), Fail> {
-    let tree = TreeId::new(1).ok_or("no tree")?;
-    let mut ops = Vec::new(rt.alloc());
-    ops.push(FrameOp::Edit(Edit::Root(NodeData::blank(rt.alloc(), id(1)?))))?;
-    ops.push(insert(rt.alloc(), 1, 0, 2)?)?;
-    ops.push(insert(rt.alloc(), 1, 1, 3)?)?;
-    ops.push(FrameOp::Pass)?;
-    ops.push(FrameOp::Edit(Edit::Move {
-        node: id(3)?,
-        parent: id(2)?,
-        index: 0,
-    }))?;
-    ops.push(FrameOp::Edit(Edit::Remove(id(9)?)))?;
-    ops.push(FrameOp::Touch(id(1)?))?;
-    ops.push(FrameOp::TouchBelow(id(8)?))?;
-    ops.push(loaded())?;
-    ops.push(FrameOp::Pass)?;
-    ops.push(FrameOp::Pass)?;
-    ops.push(insert(rt.alloc(), 3, 0, 4)?)?;
+    let tree = tree_id(1)?;
+    let ops = ops_of(rt.alloc(), &STEPS)?;
     let probes = [probe(rt.alloc(), tree)?];
     let text = replay_text(rt.alloc(), tree, ops.as_slice(), probes.as_slice())?;
     assert_eq!(rt; text.as_slice(), TEXT.as_bytes());
