@@ -6,7 +6,7 @@ use Rattle.std.proofs.lemmas.List.Concat.{flat_map-append}
 use Rattle.ax_base.specs.declared.seq.NoMemory.{NoMemory}
 use Rattle.ax_node.specs.Look.{Look}
 use Rattle.ax_node.specs.declared.node.NodeData.{NodeData}
-use Rattle.ax_trees.specs.Trees.{Trees, bare, tree, has, ids, root_of, IsDistinct, IsTree}
+use Rattle.ax_trees.specs.Trees.{Trees, bare, tree, has, roots, ids, root_of, IsDistinct, IsTree}
 use Rattle.ax_trees.specs.Nodes.{Node, node_at, tree_at, pre}
 use Rattle.ax_tree.specs.Tree.{Tree, IsWellFormed, data_of}
 use Rattle.ax_tree.specs.SerialRule.{all_of}
@@ -25,7 +25,7 @@ told_all : (g : ℕ → Option (Node Look)) (f : Trees Look) → IsDistinct f �
 told_all g bare d h = refl
 told_all g (tree i x k r) d h =
     let here : eqb i i ≡ true = grind (arith, eqb_tells i i) in
-    let at : g i ≡ Some (record { id = i; known = x; children = _ }) = h i (rw here refl) ∙ rw here refl in
+    let at : g i ≡ Some (record { id = i; known = x; children = roots k }) = h i (rw here refl) ∙ rw here refl in
     let inner : flat_map (told_by g) (ids k) ≡ map data_of (all_of k) =
     told_all g k d.3 (λ z t. let no : eqb i z ≡ false = grind (arith, eqb_tells i z, d.0, t) in h z (rw (no, t) refl) ∙ rw (no, t) refl) in
     let later : flat_map (told_by g) (ids r) ≡ map data_of (all_of r) =
