@@ -8,9 +8,10 @@ use Rattle.ax_io.specs.Parts.{AppendsFront}
 use Rattle.ax_script.specs.declared.error.ScriptErr.{ScriptErr}
 use Rattle.ax_script.specs.declared.script.Script.{Script}
 use Rattle.ax_script.specs.Script.{script}
+use Rattle.ax_report.specs.ErrorText.{script_error_text}
 use Rattle.ax_tool.specs.Built.{if_built, script_of}
-use Rattle.ax_tool.specs.Run.{replay_text}
-use Rattle.ax_tool.specs.Answer.{text_of, refusal_text}
+use Rattle.ax_tool.specs.Text.{script_text}
+use Rattle.ax_tool.specs.Answer.{text_of}
 use Rattle.ax_tool.specs.Ends.{Replayed, Refuses, WritesFront}
 
 not_below : (a b : ℕ) → nat_lt a b ≡ false → b ≤ a
@@ -37,7 +38,7 @@ pub script_is_short : (bs : List ℕ) (s : Script) → script_of bs ≡ Ok s →
 script_is_short bs s is = short_at bs s (nat_lt 67108864 (length bs)) refl is
 
 replayed_at : (b text : List ℕ) (rest held now : Option (List ℕ)) (r : Result Script ScriptErr) → script_of b ≡ r → rest ≡ Some (drop 67108865 b) → true ≡ is_ok r → text ≡ text_of r → Appends held now text
-    → (s : Script) × (script_of b ≡ Ok s) × (rest ≡ Some []) × Appends held now (replay_text s)
+    → (s : Script) × (script_of b ≡ Ok s) × (rest ≡ Some []) × Appends held now (script_text s)
 replayed_at b text rest held now (Ok s) is end ok t h = (s, is, end ∙ ap Some (drop_all 67108865 b (let short : length b ≤ 67108864 = script_is_short b s is in omega arith)), rw (← t) h)
 replayed_at b text rest held now (Err r) is end ok t h = cc
 
@@ -49,7 +50,7 @@ replayed (Some b) rest held now bytes text whole end t ok h =
     replayed_at b text rest held now (script_of b) refl end (ok ∙ ap is_ok same) (t ∙ ap text_of same) h
 
 refuses_at : (b text : List ℕ) (held now : Option (List ℕ)) (r : Result Script ScriptErr) → script_of b ≡ r → false ≡ is_ok r → text ≡ text_of r → Appends held now text
-    → (e : ScriptErr) × (script_of b ≡ Err e) × Appends held now (refusal_text e)
+    → (e : ScriptErr) × (script_of b ≡ Err e) × Appends held now (script_error_text e)
 refuses_at b text held now (Ok s) is ok t h = cc
 refuses_at b text held now (Err e) is ok t h = (e, is, rw (← t) h)
 

@@ -1,64 +1,43 @@
--- Which script the bytes are, if the program can run it. So far it runs one frame whose operations are passes and roots with
--- no more than an id, no operations of the browser, no queries, and the empty order. Actions aren't part of a replay.
-use Rattle.std.specs.Prelude.{ℕ, zero, ℤ, ◌+◌, ◌&&◌, ◌==◌, Bool, true, false, List, [], ◌∷◌, codes, pos, if◌then◌else◌, Option, Some, None, option_map, Result, Ok, Err}
+-- Which script the bytes are, if the program can run it. So far it runs one frame and probes of its tree, no other operations of
+-- the browser, no queries, and the empty order. What an operation waits for says nothing here, and actions aren't part of a
+-- replay.
+use Rattle.std.specs.Prelude.{ℕ, ◌+◌, Bool, true, false, List, [], ◌∷◌, codes, if◌then◌else◌, Option, Some, None, Result, Ok, Err}
 use Rattle.std.specs.Fmt.{decimal}
 use Rattle.std.specs.Option.{option_or}
 use Rattle.std.specs.Str.{chars}
-use Rattle.ax_base.specs.Area.{Area}
-use Rattle.ax_node.specs.declared.node.NodeData.{NodeData}
-use Rattle.ax_tree.specs.declared.edit.Edit.{Edit}
-use Rattle.ax_tree.specs.declared.edit.Edit.TheVariants as edits
-use Rattle.ax_ask.specs.declared.op.FrameOp.{FrameOp}
-use Rattle.ax_ask.specs.declared.op.FrameOp.TheVariants as ops
+use Rattle.ax_ask.specs.declared.op.BrowserOp.{BrowserOp}
+use Rattle.ax_ask.specs.declared.op.BrowserOp.TheVariants.{Ask, Destroy, Probe}
+use Rattle.ax_ask.specs.declared.op.TimedOp.{TimedOp}
 use Rattle.ax_ask.specs.declared.query.TimedQuery.{TimedQuery}
 use Rattle.ax_script.specs.declared.error.ScriptErr.{ScriptErr}
 use Rattle.ax_script.specs.declared.error.ScriptErr.TheVariants.{NotBuilt}
 use Rattle.ax_script.specs.declared.script.FrameScript.{FrameScript}
 use Rattle.ax_script.specs.declared.script.Script.{Script}
 use Rattle.ax_script.specs.Script.{script}
-use Rattle.ax_tool.specs.Writing.{◌⌢◌}
+use Rattle.ax_rules.specs.Writing.{◌⌢◌}
 
 -- the path, where the list has something
 abbrev pub unless_empty : {A : Type 0} → List ℕ → List A → Option (List ℕ)
 unless_empty path [] = None
 unless_empty path (x ∷ xs) = Some path
 
-abbrev pub is_zero : ℤ → Bool
-is_zero (pos zero) = true
-is_zero n = false
-
--- the empty rectangle at the origin
-abbrev pub is_blank_area : Area → Bool
-is_blank_area a = is_zero a.x && (is_zero a.y && (is_zero a.w && is_zero a.h))
-
--- the first member of a node that says more than its id
-unfoldable pub node_unbuilt : NodeData → Option (List ℕ)
-node_unbuilt n =
-    option_or (if n.role == 1 then None else Some (codes ".role")) (option_or (unless_empty (codes ".states") n.states)
-    (option_or (unless_empty (codes ".attrs") n.attrs) (if is_blank_area n.rect then None else Some (codes ".rect"))))
-
--- the part of an operation that isn't built, from the operation
-abbrev pub edit_unbuilt : Edit → Option (List ℕ)
-edit_unbuilt (edits.Root n) = node_unbuilt n
-edit_unbuilt e = Some (codes ".op")
-
-abbrev pub op_unbuilt : FrameOp → Option (List ℕ)
-op_unbuilt (ops.Edit e) = edit_unbuilt e
-op_unbuilt ops.Pass = None
-op_unbuilt op = Some (codes ".op")
-
--- a part of operation i of the first frame
-abbrev pub op_path : ℕ → List ℕ → List ℕ
-op_path i part = codes "$.frames[0].ops[" ⌢ decimal i ⌢ codes "]" ⌢ part
-
--- the first operation that isn't built, where they are numbered from i
-abbrev pub ops_unbuilt : ℕ → List FrameOp → Option (List ℕ)
-ops_unbuilt i [] = None
-ops_unbuilt i (op ∷ ops) = option_or (option_map (op_path i) (op_unbuilt op)) (ops_unbuilt (i + 1) ops)
-
+-- a second frame
 abbrev pub frames_unbuilt : List FrameScript → Option (List ℕ)
 frames_unbuilt [] = None
-frames_unbuilt (f ∷ fs) = option_or (ops_unbuilt 0 f.ops) (unless_empty (codes "$.frames[1]") fs)
+frames_unbuilt (f ∷ fs) = unless_empty (codes "$.frames[1]") fs
+
+abbrev pub is_probe : BrowserOp → Bool
+is_probe (Ask tree) = false
+is_probe (Destroy tree) = false
+is_probe (Probe tree update) = true
+
+abbrev pub browser_path : ℕ → List ℕ
+browser_path i = codes "$.browser[" ⌢ decimal i ⌢ codes "].op"
+
+-- the first operation of the browser that is no probe, where they are numbered from i
+abbrev pub browser_unbuilt : ℕ → List TimedOp → Option (List ℕ)
+browser_unbuilt i [] = None
+browser_unbuilt i (o ∷ os) = if is_probe o.op then browser_unbuilt (i + 1) os else Some (browser_path i)
 
 -- the first query of a reader k
 abbrev pub query_path : ℕ → List ℕ
@@ -72,7 +51,7 @@ readers_unbuilt k (queries ∷ readers) = option_or (unless_empty (query_path k)
 -- the path of the first thing, in the order of the walk, that the program can't run yet
 unfoldable pub unbuilt : Script → Option (List ℕ)
 unbuilt s =
-    option_or (frames_unbuilt s.frames) (option_or (unless_empty (codes "$.browser[0].op") s.browser)
+    option_or (frames_unbuilt s.frames) (option_or (browser_unbuilt 0 s.browser)
     (option_or (readers_unbuilt 0 s.readers) (unless_empty (codes "$.order") s.order)))
 
 abbrev pub refused_at : Script → Option (List ℕ) → Result Script ScriptErr

@@ -4,17 +4,18 @@ use Rattle.std.specs.Io.KnownBytes.{Appends}
 use Rattle.ax_io.specs.Parts.{AppendsFront}
 use Rattle.ax_script.specs.declared.error.ScriptErr.{ScriptErr}
 use Rattle.ax_script.specs.declared.script.Script.{Script}
+use Rattle.ax_report.specs.ErrorText.{script_error_text}
 use Rattle.ax_tool.specs.Built.{script_of}
-use Rattle.ax_tool.specs.Run.{replay_text}
-use Rattle.ax_tool.specs.Answer.{refusal_text, text_of, usage_text}
+use Rattle.ax_tool.specs.Text.{script_text}
+use Rattle.ax_tool.specs.Answer.{text_of, usage_text}
 
 -- the bytes left were a script, which was read to its end, and the sink grew by its text
 abbrev pub Replayed : Option (List ℕ) → Option (List ℕ) → Option (List ℕ) → Option (List ℕ) → Type 0
-Replayed left rest held now = IfSome left (λ b. (s : Script) × (script_of b ≡ Ok s) × (rest ≡ Some []) × Appends held now (replay_text s))
+Replayed left rest held now = IfSome left (λ b. (s : Script) × (script_of b ≡ Ok s) × (rest ≡ Some []) × Appends held now (script_text s))
 
 -- the bytes left were refused, and the sink grew by the refusal's line
 abbrev pub Refuses : Option (List ℕ) → Option (List ℕ) → Option (List ℕ) → Type 0
-Refuses left held now = IfSome left (λ b. (e : ScriptErr) × (script_of b ≡ Err e) × Appends held now (refusal_text e))
+Refuses left held now = IfSome left (λ b. (e : ScriptErr) × (script_of b ≡ Err e) × Appends held now (script_error_text e))
 
 -- the sink grew by a first part of the text
 abbrev pub WritesFront : Option (List ℕ) → Option (List ℕ) → Option (List ℕ) → Type 0

@@ -1,6 +1,5 @@
 pub mod Answer
 pub mod Built
 pub mod Ends
-pub mod Run
 pub mod Status
-pub mod Writing
+pub mod Text

@@ -6,8 +6,6 @@
 
 mod answer;
 mod built;
-mod frame;
-mod run;
 mod top;
 
 use crate::top::{Status, calm_main};

@@ -36,29 +36,94 @@ fn replayed(alloc: Global, script: &[u8]) -> Result<(Status, Vec<u8>), Fail> {
     Ok((status, out.held().to_vec(alloc)?))
 }
 
+/// Scripts and their texts, which come from a reference written apart.
+const REPLAYED: [(&str, &str); 19] = [
+    (
+        "{\"version\":1,\"frames\":[{\"tree\":1,\"ops\":[{\"op\":\"root\",\"node\":1},{\"op\":\"pass\"}]}]}",
+        "finale\nf1 root 1 ok\nf1 pass 1 base 0 token 0\n  u clear 0 root 1 list 1 data\na1 applied 1\ndump\ntree 1 parent 0 focused 0 loaded no focus 0 sel 0 0 0 0 title \"\" url \"\"\n1 generic\n",
+    ),
+    (
+        "{\"version\":1,\"frames\":[{\"tree\":1,\"ops\":[{\"op\":\"root\",\"node\":1},{\"op\":\"insert\",\"parent\":1,\"index\":0,\"node\":2},{\"op\":\"insert\",\"parent\":1,\"index\":1,\"node\":3},{\"op\":\"insert\",\"parent\":1,\"index\":2,\"node\":4},{\"op\":\"insert\",\"parent\":1,\"index\":3,\"node\":5},{\"op\":\"pass\"},{\"op\":\"remove\",\"node\":2},{\"op\":\"insert\",\"parent\":1,\"index\":3,\"node\":6},{\"op\":\"pass\"}]}]}",
+        "finale\nf1 root 1 ok\nf1 insert 2 ok\nf1 insert 3 ok\nf1 insert 4 ok\nf1 insert 5 ok\nf1 pass 1 base 0 token 0\n  u clear 0 root 1 list 1 2 3 4 5 data\nf1 remove 2 ok\nf1 insert 6 ok\nf1 pass 2 base 0 token 0\n  u clear 0 root 1 list 1 3 4 5 6 data\na1 applied 1\na1 applied 2\ndump\ntree 1 parent 0 focused 0 loaded no focus 0 sel 0 0 0 0 title \"\" url \"\"\n1 generic\n  3 generic\n  4 generic\n  5 generic\n  6 generic\n",
+    ),
+    (
+        "{\"version\":1,\"frames\":[{\"tree\":1,\"ops\":[{\"op\":\"root\",\"node\":1},{\"op\":\"pass\"},{\"op\":\"pass\"}]}]}",
+        "finale\nf1 root 1 ok\nf1 pass 1 base 0 token 0\n  u clear 0 root 1 list 1 data\nf1 pass nothing\na1 applied 1\ndump\ntree 1 parent 0 focused 0 loaded no focus 0 sel 0 0 0 0 title \"\" url \"\"\n1 generic\n",
+    ),
+    (
+        "{\"version\":1,\"frames\":[{\"tree\":1,\"ops\":[]}]}",
+        "finale\ndump\ntree 1 empty\n",
+    ),
+    (
+        "{\"version\":1,\"frames\":[{\"tree\":1,\"ops\":[{\"op\":\"root\",\"node\":1},{\"op\":\"insert\",\"parent\":1,\"index\":0,\"node\":2},{\"op\":\"insert\",\"parent\":1,\"index\":1,\"node\":3},{\"op\":\"insert\",\"parent\":2,\"index\":0,\"node\":4},{\"op\":\"pass\"},{\"op\":\"move\",\"node\":4,\"parent\":3,\"index\":0},{\"op\":\"pass\"}]}]}",
+        "finale\nf1 root 1 ok\nf1 insert 2 ok\nf1 insert 3 ok\nf1 insert 4 ok\nf1 pass 1 base 0 token 0\n  u clear 0 root 1 list 1 2 4 3 data\nf1 move 4 ok\nf1 pass 2 base 0 token 0\n  u clear 0 root 1 list 1 2 3 4 data\na1 applied 1\na1 applied 2\ndump\ntree 1 parent 0 focused 0 loaded no focus 0 sel 0 0 0 0 title \"\" url \"\"\n1 generic\n  2 generic\n  3 generic\n    4 generic\n",
+    ),
+    (
+        "{\"version\":1,\"frames\":[{\"tree\":1,\"ops\":[{\"op\":\"root\",\"node\":1},{\"op\":\"insert\",\"parent\":1,\"index\":0,\"node\":2},{\"op\":\"insert\",\"parent\":1,\"index\":1,\"node\":3},{\"op\":\"insert\",\"parent\":2,\"index\":0,\"node\":4},{\"op\":\"pass\"},{\"op\":\"set\",\"node\":3,\"attrs\":{\"name\":\"x\"}},{\"op\":\"move\",\"node\":4,\"parent\":3,\"index\":0},{\"op\":\"pass\"}]}]}",
+        "finale\nf1 root 1 ok\nf1 insert 2 ok\nf1 insert 3 ok\nf1 insert 4 ok\nf1 pass 1 base 0 token 0\n  u clear 0 root 1 list 1 2 4 3 data\nf1 set 3 ok\nf1 move 4 ok\nf1 pass 2 base 0 token 0\n  u clear 0 root 1 list 1 2 3 4 data\na1 applied 1\na1 applied 2\ndump\ntree 1 parent 0 focused 0 loaded no focus 0 sel 0 0 0 0 title \"\" url \"\"\n1 generic\n  2 generic\n  3 generic name=\"x\"\n    4 generic\n",
+    ),
+    (
+        "{\"version\":1,\"frames\":[{\"tree\":1,\"ops\":[{\"op\":\"root\",\"node\":1},{\"op\":\"insert\",\"parent\":1,\"index\":0,\"node\":2},{\"op\":\"pass\"},{\"op\":\"remove\",\"node\":2},{\"op\":\"insert\",\"parent\":1,\"index\":0,\"node\":2,\"role\":\"button\"},{\"op\":\"pass\"}]}]}",
+        "finale\nf1 root 1 ok\nf1 insert 2 ok\nf1 pass 1 base 0 token 0\n  u clear 0 root 1 list 1 2 data\nf1 remove 2 ok\nf1 insert 2 ok\nf1 pass 2 base 0 token 0\n  u clear 0 root 1 list 1 2 data\na1 applied 1\na1 applied 2\ndump\ntree 1 parent 0 focused 0 loaded no focus 0 sel 0 0 0 0 title \"\" url \"\"\n1 generic\n  2 button\n",
+    ),
+    (
+        "{\"version\":1,\"frames\":[{\"tree\":1,\"ops\":[{\"op\":\"root\",\"node\":1},{\"op\":\"insert\",\"parent\":1,\"index\":0,\"node\":2},{\"op\":\"insert\",\"parent\":1,\"index\":1,\"node\":7},{\"op\":\"insert\",\"parent\":2,\"index\":0,\"node\":3},{\"op\":\"insert\",\"parent\":2,\"index\":1,\"node\":6},{\"op\":\"insert\",\"parent\":3,\"index\":0,\"node\":4},{\"op\":\"insert\",\"parent\":6,\"index\":0,\"node\":5},{\"op\":\"insert\",\"parent\":7,\"index\":0,\"node\":8},{\"op\":\"pass\"},{\"op\":\"set\",\"node\":4,\"attrs\":{\"name\":\"x\"}},{\"op\":\"move\",\"node\":5,\"parent\":4,\"index\":0},{\"op\":\"move\",\"node\":8,\"parent\":6,\"index\":0},{\"op\":\"pass\"}]}]}",
+        "finale\nf1 root 1 ok\nf1 insert 2 ok\nf1 insert 7 ok\nf1 insert 3 ok\nf1 insert 6 ok\nf1 insert 4 ok\nf1 insert 5 ok\nf1 insert 8 ok\nf1 pass 1 base 0 token 0\n  u clear 0 root 1 list 1 2 3 4 6 5 7 8 data\nf1 set 4 ok\nf1 move 5 ok\nf1 move 8 ok\nf1 pass 2 base 0 token 0\n  u clear 0 root 1 list 1 2 3 4 5 6 8 7 data\na1 applied 1\na1 applied 2\ndump\ntree 1 parent 0 focused 0 loaded no focus 0 sel 0 0 0 0 title \"\" url \"\"\n1 generic\n  2 generic\n    3 generic\n      4 generic name=\"x\"\n        5 generic\n    6 generic\n      8 generic\n  7 generic\n",
+    ),
+    (
+        "{\"version\":1,\"frames\":[{\"tree\":1,\"ops\":[{\"op\":\"root\",\"node\":1},{\"op\":\"insert\",\"parent\":1,\"index\":0,\"node\":2},{\"op\":\"insert\",\"parent\":1,\"index\":1,\"node\":3},{\"op\":\"pass\"},{\"op\":\"root\",\"node\":3},{\"op\":\"insert\",\"parent\":3,\"index\":0,\"node\":1},{\"op\":\"pass\"}]}]}",
+        "finale\nf1 root 1 ok\nf1 insert 2 ok\nf1 insert 3 ok\nf1 pass 1 base 0 token 0\n  u clear 0 root 1 list 1 2 3 data\nf1 root 3 ok\nf1 insert 1 ok\nf1 pass 2 base 0 token 0\n  u clear 0 root 3 list 3 1 data\na1 applied 1\na1 applied 2\ndump\ntree 1 parent 0 focused 0 loaded no focus 0 sel 0 0 0 0 title \"\" url \"\"\n3 generic\n  1 generic\n",
+    ),
+    (
+        "{\"version\":1,\"frames\":[{\"tree\":1,\"ops\":[{\"op\":\"root\",\"node\":1},{\"op\":\"insert\",\"parent\":1,\"index\":0,\"node\":2},{\"op\":\"insert\",\"parent\":1,\"index\":1,\"node\":3},{\"op\":\"insert\",\"parent\":3,\"index\":0,\"node\":4},{\"op\":\"pass\"}]}],\"browser\":[{\"op\":\"probe\",\"tree\":1,\"update\":{\"nodes\":[{\"node\":1,\"children\":[2,3,9]}]}},{\"op\":\"probe\",\"tree\":1,\"update\":{\"nodes\":[{\"node\":2,\"children\":[4]}]}},{\"op\":\"probe\",\"tree\":1,\"update\":{\"nodes\":[{\"node\":1,\"children\":[2,2]}]}},{\"op\":\"probe\",\"tree\":1,\"update\":{\"clear\":9,\"nodes\":[]}},{\"op\":\"probe\",\"tree\":1,\"update\":{\"clear\":3,\"nodes\":[]}},{\"op\":\"probe\",\"tree\":1,\"update\":{\"nodes\":[{\"node\":9}]}}]}",
+        "finale\nf1 root 1 ok\nf1 insert 2 ok\nf1 insert 3 ok\nf1 insert 4 ok\nf1 pass 1 base 0 token 0\n  u clear 0 root 1 list 1 2 3 4 data\na1 applied 1\nb probe 1 Pending 9\nb probe 1 Reparented 4\nb probe 1 DuplicateChild 2\nb probe 1 BadClear 9\nb probe 1 Pending 3\nb probe 1 NotInTree 9\ndump\ntree 1 parent 0 focused 0 loaded no focus 0 sel 0 0 0 0 title \"\" url \"\"\n1 generic\n  2 generic\n  3 generic\n    4 generic\n",
+    ),
+    (
+        "{\"version\":1,\"frames\":[{\"tree\":1,\"ops\":[{\"op\":\"root\",\"node\":1},{\"op\":\"insert\",\"parent\":1,\"index\":0,\"node\":2},{\"op\":\"insert\",\"parent\":1,\"index\":1,\"node\":3},{\"op\":\"insert\",\"parent\":3,\"index\":0,\"node\":4},{\"op\":\"pass\"}]}],\"browser\":[{\"op\":\"probe\",\"tree\":1,\"update\":{\"nodes\":[{\"node\":1,\"children\":[2]},{\"node\":2,\"children\":[4]},{\"node\":4}]}}]}",
+        "finale\nf1 root 1 ok\nf1 insert 2 ok\nf1 insert 3 ok\nf1 insert 4 ok\nf1 pass 1 base 0 token 0\n  u clear 0 root 1 list 1 2 3 4 data\na1 applied 1\nb probe 1 accepted 3\ndump\ntree 1 parent 0 focused 0 loaded no focus 0 sel 0 0 0 0 title \"\" url \"\"\n1 generic\n  2 generic\n  3 generic\n    4 generic\n",
+    ),
+    (
+        "{\"version\":1,\"frames\":[{\"tree\":1,\"ops\":[{\"op\":\"remove\",\"node\":1},{\"op\":\"root\",\"node\":1},{\"op\":\"insert\",\"parent\":1,\"index\":0,\"node\":2},{\"op\":\"insert\",\"parent\":9,\"index\":0,\"node\":3},{\"op\":\"insert\",\"parent\":1,\"index\":0,\"node\":2},{\"op\":\"insert\",\"parent\":1,\"index\":5,\"node\":3},{\"op\":\"remove\",\"node\":1},{\"op\":\"move\",\"node\":1,\"parent\":2,\"index\":0},{\"op\":\"move\",\"node\":2,\"parent\":2,\"index\":0},{\"op\":\"touch\",\"node\":9}]}]}",
+        "finale\nf1 remove 1 NoRoot\nf1 root 1 ok\nf1 insert 2 ok\nf1 insert 3 UnknownNode 9\nf1 insert 2 IdTaken 2\nf1 insert 3 BadIndex 5 1\nf1 remove 1 IsRoot 1\nf1 move 1 IsRoot 1\nf1 move 2 IntoItself 2\nf1 touch 9 UnknownNode 9\nb ask 1 token 1\nd1:1\nf1 pass 1 base 0 token 1\n  u clear 0 root 1 list 1 2 data\na1 applied 1\ndump\ntree 1 parent 0 focused 0 loaded no focus 0 sel 0 0 0 0 title \"\" url \"\"\n1 generic\n  2 generic\n",
+    ),
+    (
+        "{\"version\":1,\"frames\":[{\"tree\":1,\"ops\":[{\"op\":\"root\",\"node\":1},{\"op\":\"insert\",\"parent\":1,\"index\":0,\"node\":2},{\"op\":\"pass\"},{\"op\":\"touch\",\"node\":2},{\"op\":\"pass\"}]}]}",
+        "finale\nf1 root 1 ok\nf1 insert 2 ok\nf1 pass 1 base 0 token 0\n  u clear 0 root 1 list 1 2 data\nf1 touch 2 ok\nf1 pass 2 base 0 token 0\n  u clear 0 root 1 list 1 2 data\na1 applied 1\na1 applied 2\ndump\ntree 1 parent 0 focused 0 loaded no focus 0 sel 0 0 0 0 title \"\" url \"\"\n1 generic\n  2 generic\n",
+    ),
+    (
+        "{\"version\":1,\"frames\":[{\"tree\":1,\"ops\":[{\"op\":\"root\",\"node\":1},{\"op\":\"insert\",\"parent\":1,\"index\":0,\"node\":2},{\"op\":\"pass\"},{\"op\":\"touch_below\",\"node\":1},{\"op\":\"pass\"}]}]}",
+        "finale\nf1 root 1 ok\nf1 insert 2 ok\nf1 pass 1 base 0 token 0\n  u clear 0 root 1 list 1 2 data\nf1 touch_below 1 ok\nf1 pass 2 base 0 token 0\n  u clear 0 root 1 list 1 2 data\na1 applied 1\na1 applied 2\ndump\ntree 1 parent 0 focused 0 loaded no focus 0 sel 0 0 0 0 title \"\" url \"\"\n1 generic\n  2 generic\n",
+    ),
+    (
+        "{\"version\":1,\"frames\":[{\"tree\":1,\"ops\":[{\"op\":\"root\",\"node\":1,\"role\":\"button\",\"states\":[\"visited\",\"focusable\"],\"attrs\":{\"level\":3,\"name\":\"a\\\"b\"},\"rect\":[1,2,3,4]},{\"op\":\"pass\"}]}]}",
+        "finale\nf1 root 1 ok\nf1 pass 1 base 0 token 0\n  u clear 0 root 1 list 1 data\na1 applied 1\ndump\ntree 1 parent 0 focused 0 loaded no focus 0 sel 0 0 0 0 title \"\" url \"\"\n1 button [1,2,3,4] +focusable +visited name=\"a\\\"b\" level=3\n",
+    ),
+    (
+        "{\"version\":1,\"frames\":[{\"tree\":1,\"ops\":[{\"op\":\"root\",\"node\":1},{\"op\":\"insert\",\"parent\":1,\"index\":0,\"node\":2},{\"op\":\"insert\",\"parent\":1,\"index\":1,\"node\":3},{\"op\":\"insert\",\"parent\":3,\"index\":0,\"node\":4},{\"op\":\"pass\"}]}],\"browser\":[{\"op\":\"probe\",\"tree\":1,\"update\":{\"nodes\":[]}},{\"op\":\"probe\",\"tree\":1,\"update\":{\"root\":5,\"nodes\":[{\"node\":5}]}},{\"op\":\"probe\",\"tree\":1,\"update\":{\"root\":5,\"nodes\":[]}},{\"op\":\"probe\",\"tree\":1,\"update\":{\"clear\":2,\"root\":9,\"nodes\":[{\"node\":9}]}},{\"op\":\"probe\",\"tree\":1,\"update\":{\"clear\":4,\"root\":1,\"nodes\":[{\"node\":1,\"children\":[2,3]}]}},{\"op\":\"probe\",\"tree\":1,\"update\":{\"nodes\":[{\"node\":1,\"children\":[1]}]}},{\"op\":\"probe\",\"tree\":1,\"update\":{\"nodes\":[{\"node\":1,\"children\":[4,4]}]}},{\"op\":\"probe\",\"tree\":1,\"update\":{\"nodes\":[{\"node\":3},{\"node\":2,\"children\":[4]},{\"node\":4}]}},{\"op\":\"probe\",\"tree\":1,\"update\":{\"nodes\":[{\"node\":2,\"children\":[7]},{\"node\":1,\"children\":[3]}]}}]}",
+        "finale\nf1 root 1 ok\nf1 insert 2 ok\nf1 insert 3 ok\nf1 insert 4 ok\nf1 pass 1 base 0 token 0\n  u clear 0 root 1 list 1 2 3 4 data\na1 applied 1\nb probe 1 accepted 4\nb probe 1 accepted 1\nb probe 1 Pending 5\nb probe 1 accepted 1\nb probe 1 Pending 4\nb probe 1 Reparented 1\nb probe 1 DuplicateChild 4\nb probe 1 accepted 4\nb probe 1 accepted 3\ndump\ntree 1 parent 0 focused 0 loaded no focus 0 sel 0 0 0 0 title \"\" url \"\"\n1 generic\n  2 generic\n  3 generic\n    4 generic\n",
+    ),
+    (
+        "{\"version\":1,\"frames\":[{\"tree\":1,\"ops\":[]}],\"browser\":[{\"op\":\"probe\",\"tree\":1,\"update\":{\"nodes\":[{\"node\":1}]}},{\"op\":\"probe\",\"tree\":1,\"update\":{\"clear\":1,\"nodes\":[]}}]}",
+        "finale\nb probe 1 NotInTree 1\nb probe 1 BadClear 1\ndump\ntree 1 empty\n",
+    ),
+    (
+        "{\"version\":1,\"frames\":[{\"tree\":7,\"ops\":[{\"op\":\"pass\"},{\"op\":\"root\",\"node\":1},{\"op\":\"pass\"},{\"op\":\"pass\"},{\"op\":\"root\",\"node\":5},{\"op\":\"pass\"},{\"op\":\"data\",\"focus\":5}]}]}",
+        "finale\nf7 pass nothing\nf7 root 1 ok\nf7 pass 1 base 0 token 0\n  u clear 0 root 1 list 1 data\nf7 pass nothing\nf7 root 5 ok\nf7 pass 2 base 0 token 0\n  u clear 0 root 5 list 5 data\nf7 data ok\na7 applied 1\na7 applied 2\nb ask 7 token 1\nd7:1\nf7 pass 3 base 0 token 1\n  u clear 0 root 5 list 5 data\na7 applied 3\ndump\ntree 7 parent 0 focused 0 loaded no focus 5 sel 0 0 0 0 title \"\" url \"\"\n5 generic\n",
+    ),
+    (
+        "{\"order\":\"\",\"version\":2,\"readers\":[[]],\"frames\":[{\"tree\":1,\"ops\":[]}],\"actions\":[{\"do\":\"focus\",\"tree\":1,\"node\":1}]}",
+        "finale\ndump\ntree 1 empty\n",
+    ),
+];
+
 #[test]
-fn a_script_is_replayed(rt: HostRuntime) -> Result<(), Fail> {
+fn scripts_are_replayed(rt: HostRuntime) -> Result<(), Fail> {
     let alloc = rt.alloc();
-    let (status, text) = replayed(alloc, FIRST)?;
-    assert_eq!(&rt; status, Status::Ok);
-    assert_eq!(&rt; text.as_slice(), FIRST_TEXT);
-
-    let (status, text) = replayed(
-        alloc,
-        b"{\"order\":\"\",\"version\":2,\"readers\":[[]],\"frames\":[{\"tree\":1,\"ops\":[]}],\"actions\":[{\"do\":\"focus\",\"tree\":1,\"node\":1}]}",
-    )?;
-    assert_eq!(&rt; status, Status::Ok);
-    assert_eq!(&rt; text.as_slice(), b"finale\ndump\ntree 1 empty\n".as_slice());
-
-    let (status, text) = replayed(
-        alloc,
-        b"{\"version\":1,\"frames\":[{\"tree\":7,\"ops\":[{\"op\":\"pass\"},{\"op\":\"root\",\"node\":1},{\"op\":\"pass\"},{\"op\":\"pass\"},{\"op\":\"root\",\"node\":5},{\"op\":\"pass\"},{\"op\":\"root\",\"node\":6}]}]}",
-    )?;
-    assert_eq!(&rt; status, Status::Ok);
-    assert_eq!(&rt;
-        text.as_slice(),
-        b"finale\nf7 pass nothing\nf7 root 1 ok\nf7 pass 1 base 0 token 0\n  u clear 0 root 1 list 1 data\nf7 pass nothing\nf7 root 5 ok\nf7 pass 2 base 0 token 0\n  u clear 0 root 5 list 5 data\nf7 root 6 ok\na7 applied 1\na7 applied 2\nb ask 7 token 1\nd7:1\nf7 pass 3 base 0 token 1\n  u clear 0 root 6 list 6 data\na7 applied 3\ndump\ntree 7 parent 0 focused 0 loaded no focus 0 sel 0 0 0 0 title \"\" url \"\"\n6 generic\n".as_slice()
-    );
+    for (script, text) in REPLAYED {
+        let (status, written) = replayed(alloc, script.as_bytes())?;
+        assert_eq!(&rt; status, Status::Ok);
+        assert_eq!(&rt; written.as_slice(), text.as_bytes());
+    }
     Ok(())
 }
 
@@ -86,33 +151,17 @@ const GRAMMAR: [(&str, &str); 10] = [
 ];
 
 /// Scripts that the program can't run yet, and the path of the first thing that isn't built.
-const UNBUILT: [(&str, &str); 9] = [
+const UNBUILT: [(&str, &str); 5] = [
     (
-        "{\"version\":1,\"frames\":[{\"tree\":1,\"ops\":[{\"op\":\"pass\"},{\"op\":\"touch\",\"node\":1}]}],\"order\":\"b\"}",
-        "$.frames[0].ops[1].op",
-    ),
-    (
-        "{\"version\":1,\"frames\":[{\"tree\":1,\"ops\":[{\"op\":\"root\",\"node\":1,\"rect\":[0,0,1,1],\"role\":\"button\"}]}]}",
-        "$.frames[0].ops[0].role",
-    ),
-    (
-        "{\"version\":1,\"frames\":[{\"tree\":1,\"ops\":[{\"op\":\"root\",\"node\":1,\"states\":[\"ignored\"]}]}]}",
-        "$.frames[0].ops[0].states",
-    ),
-    (
-        "{\"version\":1,\"frames\":[{\"tree\":1,\"ops\":[{\"op\":\"root\",\"node\":1,\"attrs\":{\"name\":\"\"}}]}]}",
-        "$.frames[0].ops[0].attrs",
-    ),
-    (
-        "{\"version\":1,\"frames\":[{\"tree\":1,\"ops\":[{\"op\":\"root\",\"node\":1,\"rect\":[0,0,0,1]}]}]}",
-        "$.frames[0].ops[0].rect",
-    ),
-    (
-        "{\"version\":1,\"frames\":[{\"tree\":1,\"ops\":[]},{\"tree\":2,\"ops\":[]}]}",
+        "{\"version\":1,\"frames\":[{\"tree\":1,\"ops\":[{\"op\":\"pass\"}]},{\"tree\":2,\"ops\":[]}],\"browser\":[{\"op\":\"ask\",\"tree\":1}]}",
         "$.frames[1]",
     ),
     (
-        "{\"version\":1,\"frames\":[{\"tree\":1,\"ops\":[]}],\"browser\":[{\"op\":\"ask\",\"tree\":1}],\"order\":\"b\"}",
+        "{\"version\":1,\"frames\":[{\"tree\":1,\"ops\":[]}],\"browser\":[{\"op\":\"probe\",\"tree\":1,\"update\":{\"nodes\":[]}},{\"op\":\"ask\",\"tree\":1}],\"order\":\"b\"}",
+        "$.browser[1].op",
+    ),
+    (
+        "{\"version\":1,\"frames\":[{\"tree\":1,\"ops\":[]}],\"browser\":[{\"op\":\"destroy\",\"tree\":1}]}",
         "$.browser[0].op",
     ),
     (
