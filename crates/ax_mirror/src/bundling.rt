@@ -76,6 +76,7 @@ pub fn take_all<L: Ledger>(
 ) -> Result<(), BundleErr>
     ensures ok { OnOk result (Applies (λ t. applied_all updates.now t) draft.old about.old draft.new about.new) }
     ensures err { IfErr result (λ r. IsBroken (λ t. applied_all updates.now t) draft.old about.old r) }
+    ensures at { IfErr result (λ r. r.at ≤ length updates.now) }
     ensures tracked { OnOk result (TrackedHeld draft.old draft.new) }
     ensures cost { OnOk result (steps.new + length draft.old.touched ≤ steps.old + length draft.new.touched) }
     ensures only { OnOk result (TouchesOnly updates.now draft.old draft.new) }

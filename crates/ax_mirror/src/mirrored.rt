@@ -118,6 +118,7 @@ impl Mirror {
     ) -> Result<Touched, BundleErr>
         ensures ok { OnOk result (applied_all bundle.now (base_of fresh self.old) ≡ Ok self.new) }
         ensures err { IfErr result (λ r. BrokenAs r (applied_all bundle.now (base_of fresh self.old))) }
+        ensures at { IfErr result (λ r. r.at ≤ length bundle.now) }
         ensures unchanged { OnErr result (self.new ≡ self.old) }
         ensures named { IfOk result (λ t. NamesChanges self.old self.new t) }
         ensures cost { IfOk result (λ t. steps.new ≤ steps.old + length t) }
@@ -136,6 +137,7 @@ impl Mirror {
     ) -> Result<Touched, BundleErr>
         ensures ok { OnOk result (applied_all bundle.now self.old ≡ Ok self.new) }
         ensures err { IfErr result (λ r. BrokenAs r (applied_all bundle.now self.old)) }
+        ensures at { IfErr result (λ r. r.at ≤ length bundle.now) }
         ensures unchanged { OnErr result (self.new ≡ self.old) }
         ensures named { IfOk result (λ t. NamesChanges self.old self.new t) }
         ensures cost { IfOk result (λ t. steps.new ≤ steps.old + length t) }
@@ -164,6 +166,7 @@ impl Mirror {
     ) -> Result<Touched, BundleErr>
         ensures ok { OnOk result (applied_all bundle.now (empty self.old.about.tree) ≡ Ok self.new) }
         ensures err { IfErr result (λ r. BrokenAs r (applied_all bundle.now (empty self.old.about.tree))) }
+        ensures at { IfErr result (λ r. r.at ≤ length bundle.now) }
         ensures unchanged { OnErr result (self.new ≡ self.old) }
         ensures named { IfOk result (λ t. NamesChanges self.old self.new t) }
         ensures cost { IfOk result (λ t. steps.new ≤ steps.old + length t) }
@@ -185,7 +188,8 @@ impl Mirror {
 }
 
 fn no_memory() -> BundleErr
-    ensures { IsForMemory result }
+    ensures why { IsForMemory result }
+    ensures at { result.at ≡ 0 }
 {
     BundleErr {
         at: 0,
