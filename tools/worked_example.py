@@ -1,7 +1,7 @@
 #!/usr/bin/env python3
 """Writes a worked example of the rules: a script as a term, and a lemma that computes its whole text.
 
-    worked_example.py [--command replay|combine|act] --title TITLE --reference PROGRAM SCRIPT.json > proofs/NAME.antt
+    worked_example.py [--command replay|combine|act] --title TITLE --reference PROGRAM SCRIPT.json > proofs/examples/NAME.antt
 
 PROGRAM is a reference of the program: called with the command as its one argument and with the script at its input, it
 writes the text that the rules are to give. TITLE is the file's first line: what the example shows.
@@ -245,7 +245,7 @@ MODULES = {
     "ops": "Rattle.ax_ask.specs.declared.op.FrameOp.TheVariants",
     "browsers": "Rattle.ax_ask.specs.declared.op.BrowserOp.TheVariants",
     "queries": "Rattle.ax_ask.specs.declared.query.Query.TheVariants",
-    "ways": "Rattle.ax_ask.specs.declared.query.Way.TheVariants",
+    "ways": "Rattle.ax_base.specs.declared.position.Way.TheVariants",
     "whats": "Rattle.ax_ask.specs.declared.action.What.TheVariants",
 }
 WORDS = [
@@ -281,10 +281,10 @@ def example(title, command, script, out):
     for alias, name in MODULES.items():
         if f"{alias}." in body:
             head.append(f"use {name} as {alias}")
-    head.append("use Rattle.ax_rules.specs.Scripts.{Script}")
+    head.append("use Rattle.ax_run_rules.specs.Scripts.{Script}")
     head.append(f"use Rattle.ax_rules.specs.{module}.{{{call}}}")
-    head.append("use Rattle.ax_rules.proofs.Computing.{computing}")
-    head.append(f"use Rattle.ax_rules.proofs.ScriptWords.{{{', '.join(w for w in WORDS if used(body, w))}}}")
+    head.append("use Rattle.ax_run_rules.proofs.Computing.{computing}")
+    head.append(f"use Rattle.ax_run_rules.proofs.ScriptWords.{{{', '.join(w for w in WORDS if used(body, w))}}}")
     return "\n".join(head) + "\n\n" + body
 
 

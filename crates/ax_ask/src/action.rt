@@ -1,3 +1,4 @@
+//! Actions of readers.
 use ax_base::{NodeId, Seq, Text, TreeId};
 
 /// A list of actions.

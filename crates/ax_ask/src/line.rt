@@ -1,3 +1,4 @@
+//! Lines, which answer the steps of a run.
 use crate::{ActNote, DoName, QueryName, Reply};
 use ax_base::{Ids, NodeId, PassNo, Seq, Token, TreeId};
 use ax_tree::{EditErr, MarkErr, Refusal, Verdict};

@@ -1,3 +1,5 @@
+//! Operations of frames and of the browser, and the steps of a run.
+use crate::OpName;
 use ax_base::{NodeId, Seq, Token, TreeId};
 use ax_tree::{Edit, TreeUpdate};
 
@@ -20,6 +22,18 @@ pub enum FrameOp {
     Pass,
 }
 
+/// Which operation of a frame it is.
+#[derive(Clone, Copy, Debug, PartialEq, Eq)]
+pub enum FrameOpName {
+    /// An edit of a node.
+    Edit(OpName),
+    /// An edit of the tree data.
+    Data,
+    Touch,
+    TouchBelow,
+    Pass,
+}
+
 /// What the browser is asked to do.
 #[derive(Debug, Drop)]
 pub enum BrowserOp {
@@ -29,6 +43,14 @@ pub enum BrowserOp {
     Destroy(TreeId),
     /// Whether the tree would take the update.
     Probe(TreeId, TreeUpdate),
+}
+
+/// Which operation of the browser it is.
+#[derive(Clone, Copy, Debug, PartialEq, Eq)]
+pub enum BrowserOpName {
+    Ask,
+    Destroy,
+    Probe,
 }
 
 /// An operation of the browser, which is due once this many packets were received.

@@ -1,14 +1,8 @@
-use ax_base::{Place, Point, Pos, Seq, Unit};
+//! Queries of readers.
+use ax_base::{Place, Point, Pos, Seq, Unit, Way};
 
 /// A reader's queries.
 pub type TimedQueries = Seq<TimedQuery>;
-
-/// Which way a position moves.
-#[derive(Clone, Copy, Debug, PartialEq, Eq)]
-pub enum Way {
-    Next,
-    Prev,
-}
 
 /// What a reader asks.
 #[derive(Clone, Copy, Debug, PartialEq, Eq)]

@@ -1,3 +1,4 @@
+//! Answers to queries.
 use ax_attrs::Role;
 use ax_base::{Place, Places, Pos, Text};
 use std::cmp::Ordering;

@@ -1,3 +1,4 @@
+//! Kinds of events.
 ghost use Rattle.std.specs.Prelude.{◌≡◌, ◌<◌, ◌≤◌, ◌↔◌, ℕ, Some};
 ghost use Rattle.std.specs.Option.{SomeIff};
 ghost use Rattle.ax_attrs.specs.Entry.{name_of, number_named, IsNamed};

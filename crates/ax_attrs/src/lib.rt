@@ -14,8 +14,6 @@ mod role;
 mod state;
 mod table;
 mod tables;
-#[cfg(test)]
-mod tests;
 
 pub use event_kind::EventKind;
 pub use key::Key;

@@ -1,3 +1,4 @@
+//! Roles.
 ghost use Rattle.std.specs.Prelude.{◌≡◌, ◌<◌, ◌≤◌, ◌↔◌, ℕ, Some};
 ghost use Rattle.std.specs.Option.{SomeIff};
 ghost use Rattle.ax_attrs.specs.Entry.{name_of, number_named, IsNamed, number_within};

@@ -1,3 +1,4 @@
+//! Rows and tables.
 /// What the values of an attribute are.
 #[derive(Clone, Copy, Debug, PartialEq, Eq)]
 pub enum Kind {

@@ -1,3 +1,4 @@
+//! The tables.
 ghost use Rattle.std.specs.Prelude.{◌≡◌, length, IsTrue};
 ghost use Rattle.ax_attrs.specs.Entry.{IsTable};
 ghost use Rattle.ax_attrs.specs.Rows.{entries};

@@ -1,3 +1,4 @@
 pub mod Area
 pub mod Entries
+pub mod SharedText
 pub mod TextBounds

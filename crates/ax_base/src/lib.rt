@@ -13,15 +13,13 @@ mod text;
 
 pub use id::{NodeId, TreeId};
 pub use pass::{PassNo, Token};
-pub use position::{Affinity, Place, Pos, Unit};
+pub use position::{Affinity, Place, Pos, PosErr, Unit, Way};
 pub use rect::{Point, Rect};
 pub use seq::{NoMemory, Seq};
 pub use text::{SliceErr, Text};
 
 /// A list of node ids.
 pub type Ids = Seq<NodeId>;
-/// The ids that a change touched.
-pub type Touched = Seq<NodeId>;
 /// A list of offsets, in scalars.
 pub type Offsets = Seq<usize>;
 /// A list of places.

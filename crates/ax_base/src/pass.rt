@@ -1,3 +1,4 @@
+//! Numbers of passes and tokens.
 /// The number of a pass of a frame, from 0, where 0 stands before the first pass.
 #[derive(Clone, Copy, Debug, PartialEq, Eq, PartialOrd, Ord, Hash)]
 pub struct PassNo(pub u64);

@@ -1,3 +1,4 @@
+//! Points and rectangles.
 ghost use Rattle.std.specs.Prelude.{◌≡◌, IsTrue, ◌↔◌, SomeIff, pos, ◌≤ℤ◌, ◌<ℤ◌, ◌+ℤ◌};
 ghost use Rattle.ax_base.specs.Area.{IsArea, Holds};
 
@@ -33,6 +34,7 @@ impl Model for Rect {
 }
 
 impl Rect {
+    /// `None` where a side is negative or an edge too far.
     // One test an `if`: what a chain of `||` rules out isn't known after it.
     pub fn new(x: i32, y: i32, w: i32, h: i32) -> Option<Rect>
         ensures { SomeIff result (IsArea x y w h) (record { x = x; y = y; w = w; h = h }) }

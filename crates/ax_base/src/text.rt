@@ -1,4 +1,5 @@
-ghost use Rattle.std.specs.Prelude.{◌≡◌, ◌≤◌, [], ◌∷◌, ◌⊎◌, true, length, take, drop, encode_utf8_all, slice_range, IfOk, IfErr, IsTrue, ◌↔◌};
+//! Texts, and where they may be parted.
+ghost use Rattle.std.specs.Prelude.{◌≡◌, ◌≤◌, [], ◌∷◌, ◌⊎◌, true, length, take, drop, slice_range, IfOk, IfErr, IsTrue, ◌↔◌};
 ghost use Rattle.std.specs.Str.{chars};
 ghost use Rattle.std.specs.String.{string_bytes};
 ghost use Rattle.ax_base.specs.TextBounds.{grapheme_bounds, word_starts, ends, starts, begins_white};
@@ -6,24 +7,28 @@ ghost use Rattle.unicode_segmentation.specs.Grapheme.{graphemes};
 ghost use Rattle.unicode_segmentation.specs.Word.{word_bounds};
 
 use crate::{NoMemory, Offsets};
-use std::alloc::{AllocError, Global};
+use std::alloc::Global;
 use std::marker::Model;
+use std::sync::ArcStr;
 use unicode_segmentation::UnicodeSegmentation;
 
 /// UTF-8 text that contracts see as the list of its Unicode scalar values. Every offset counts scalars.
+///
+/// Its bytes never change, and stand once however often it is copied. The empty text has none and takes no memory.
 #[derive(Debug, Drop)]
 pub struct Text {
-    text: String,
+    bytes: Option<ArcStr>,
+    alloc: Global,
 }
 
 impl Model for Text {
     ghost use Rattle.std.specs.Prelude.{List, ℕ};
     ghost use Rattle.std.specs.Str.{chars};
-    ghost use Rattle.std.specs.String.{string_bytes};
+    ghost use Rattle.ax_base.specs.SharedText.{bytes_of};
 
     ghost Value = { List ℕ };
 
-    ghost view = { λ t. chars (string_bytes t.text) };
+    ghost view = { λ t. chars (bytes_of t.bytes) };
 }
 
 /// Why a part of a text wasn't given: its start, its end and the text's length, or want of memory.
@@ -33,54 +38,93 @@ pub enum SliceErr {
     NoMemory,
 }
 
+impl From<NoMemory> for SliceErr {
+    ghost use Rattle.std.specs.Prelude.{◌≡◌};
+    ghost use Rattle.ax_base.specs.declared.text.SliceErr.TheVariants.{NoMemory as OutOfMemory};
+
+    ghost from_gives = { λ _ e. e ≡ OutOfMemory };
+
+    fn from(_error: NoMemory) -> SliceErr {
+        SliceErr::NoMemory
+    }
+}
+
 impl Text {
     /// The empty text, which takes no memory.
     pub fn new(alloc: Global) -> Text
         ensures { result ≡ [] }
     {
-        Text {
-            text: String::new(alloc),
-        }
+        Text { bytes: None, alloc }
     }
 
+    /// The text of these bytes. Linear in them.
     pub fn of(alloc: Global, s: &str) -> Result<Text, NoMemory>
         ensures { IfOk result (λ t. t ≡ chars s.now) }
     {
-        match String::from_str(alloc, s) {
-            Ok(text) => Ok(Text { text }),
-            Err(_) => Err(NoMemory),
+        if s.is_empty() {
+            return Ok(Text::new(alloc));
         }
+        let bytes = ArcStr::from_str(alloc, s)?;
+        Ok(Text {
+            bytes: Some(bytes),
+            alloc,
+        })
+    }
+
+    fn of_string(alloc: Global, text: String) -> Result<Text, NoMemory>
+        ensures { IfOk result (λ t. t ≡ chars (string_bytes text)) }
+    {
+        if text.as_str().is_empty() {
+            return Ok(Text::new(alloc));
+        }
+        let bytes = ArcStr::from_string(text)?;
+        Ok(Text {
+            bytes: Some(bytes),
+            alloc,
+        })
     }
 
     pub fn as_str(&self) -> &str
         ensures { chars result.now ≡ self.now }
     {
-        self.text.as_str()
+        match &self.bytes {
+            Some(bytes) => bytes.as_str(),
+            None => "",
+        }
     }
 
     /// How many scalars it has. Linear in the text.
     pub fn len(&self) -> usize
         ensures { result ≡ length self.now }
     {
-        self.text.as_str().chars().count()
+        self.as_str().chars().count()
     }
 
     pub fn is_empty(&self) -> bool
         ensures { IsTrue result ↔ (self.now ≡ []) }
     {
-        self.text.as_str().is_empty()
+        self.as_str().is_empty()
     }
 
+    /// Whether both have the same scalars. Linear in the text.
     pub fn same(&self, other: &Text) -> bool
         ensures { IsTrue result ↔ (self.now ≡ other.now) }
     {
-        self.text.as_str() == other.text.as_str()
+        self.as_str() == other.as_str()
     }
 
+    /// One more owner of the same bytes. It takes no memory: `NoMemory` comes only where the owners can't be counted.
     pub fn copy(&self) -> Result<Text, NoMemory>
         ensures { IfOk result (λ t. t ≡ self.now) }
     {
-        Text::of(*self.text.allocator(), self.as_str())
+        let bytes = match &self.bytes {
+            Some(bytes) => Some(bytes.clone()?),
+            None => None,
+        };
+        Ok(Text {
+            bytes,
+            alloc: self.alloc,
+        })
     }
 
     /// The scalars from `start` to before `end`. Linear in the text.
@@ -93,29 +137,22 @@ impl Text {
         if start > end || end > len {
             return Err(SliceErr::BadRange(start, end, len));
         }
-        match part_of(
-            *self.text.allocator(),
-            self.text.as_str(),
-            start,
-            end - start,
-        ) {
-            Ok(text) => Ok(Text { text }),
-            Err(_) => Err(SliceErr::NoMemory),
-        }
+        let part = part_of(self.alloc, self.as_str(), start, end - start)?;
+        Ok(part)
     }
 
     /// 0, and then the end of each extended grapheme cluster. Linear in the text.
     pub fn grapheme_bounds(&self) -> Result<Offsets, NoMemory>
         ensures { IfOk result (λ bounds. bounds ≡ grapheme_bounds self.now) }
     {
-        grapheme_bounds_of(*self.text.allocator(), self.text.as_str())
+        grapheme_bounds_of(self.alloc, self.as_str())
     }
 
     /// The starts of the pieces between word boundaries whose first scalar isn't white space. Linear in the text.
     pub fn word_starts(&self) -> Result<Offsets, NoMemory>
         ensures { IfOk result (λ offsets. offsets ≡ word_starts self.now) }
     {
-        word_starts_of(*self.text.allocator(), self.text.as_str())
+        word_starts_of(self.alloc, self.as_str())
     }
 }
 
@@ -140,10 +177,11 @@ impl Eq for Text {
 }
 
 /// The scalars from `start` on, `count` of them.
-fn part_of(alloc: Global, text: &str, start: usize, count: usize) -> Result<String, AllocError>
-    ensures { IfOk result (λ part. string_bytes part ≡ encode_utf8_all (take count (drop start (chars text.now)))) }
+fn part_of(alloc: Global, text: &str, start: usize, count: usize) -> Result<Text, NoMemory>
+    ensures { IfOk result (λ part. part ≡ take count (drop start (chars text.now))) }
 {
-    text.chars().skip(start).take(count).collect(alloc)
+    let part: String = text.chars().skip(start).take(count).collect(alloc)?;
+    Text::of_string(alloc, part)
 }
 
 // The pieces come as bytes, so the scalars of each are counted: no offset in bytes is ever turned into one in scalars.
@@ -189,55 +227,5 @@ fn begins_white(piece: &str) -> bool
     match piece.chars().next() {
         Some(c) => c.is_whitespace(),
         None => true,
-    }
-}
-
-#[cfg(test)]
-mod tests {
-    use super::*;
-    use std::test::Fail;
-
-    #[test]
-    fn parts(rt: HostRuntime) -> Result<(), Fail> {
-        let ab = Text::of(rt.alloc(), "ab")?;
-        let refused = match ab.slice(1, 3) {
-            Ok(_) => None,
-            Err(e) => Some(e),
-        };
-        assert_eq!(rt; refused, Some(SliceErr::BadRange(1, 3, 2)));
-        let text = Text::of(rt.alloc(), "a\u{e9}\u{1F600}b")?;
-        assert_eq!(rt; text.len(), 4);
-        assert_eq!(rt; text.slice(1, 3)?.as_str(), "\u{e9}\u{1F600}");
-        assert!(rt; text.same(&text.copy()?));
-        Ok(())
-    }
-
-    #[test]
-    fn clusters(rt: HostRuntime) -> Result<(), Fail> {
-        let accent = Text::of(rt.alloc(), "abe\u{301}")?;
-        assert_eq!(rt;
-            accent.grapheme_bounds()?.as_slice(),
-            [0, 1, 2, 4].as_slice()
-        );
-        let family = Text::of(rt.alloc(), "\u{1F468}\u{200D}\u{1F469}\u{200D}\u{1F467}x")?;
-        assert_eq!(rt; family.grapheme_bounds()?.as_slice(), [0, 5, 6].as_slice());
-        let flags = Text::of(rt.alloc(), "\u{1F1E9}\u{1F1EA}\u{1F1EB}\u{1F1F7}\r\n")?;
-        assert_eq!(rt;
-            flags.grapheme_bounds()?.as_slice(),
-            [0, 2, 4, 6].as_slice()
-        );
-        let conjunct = Text::of(rt.alloc(), "\u{915}\u{94D}\u{937}a")?;
-        assert_eq!(rt;
-            conjunct.grapheme_bounds()?.as_slice(),
-            [0, 3, 4].as_slice()
-        );
-        Ok(())
-    }
-
-    #[test]
-    fn words(rt: HostRuntime) -> Result<(), Fail> {
-        let text = Text::of(rt.alloc(), "one two, e\u{301}n")?;
-        assert_eq!(rt; text.word_starts()?.as_slice(), [0, 4, 7, 9].as_slice());
-        Ok(())
     }
 }

@@ -1,2 +1,6 @@
-pub mod HoleLemmas
-pub mod TogetherLemmas
+pub mod Taking
+pub mod Tying
+pub mod Arranging
+pub mod Changing
+pub mod Knowing
+pub mod Setting

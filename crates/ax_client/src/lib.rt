@@ -1,6 +1,8 @@
-//! What the serializer of a frame keeps: the marks of nodes that are to be sent.
+//! What the serializer of a frame knows of its receiver: the ids that the receiver has, with their child lists.
 #![tactic(auto)]
 
-mod mark_list;
+mod children;
+mod client_tree;
+mod held;
 
-pub use mark_list::Marks;
+pub use client_tree::ClientTree;

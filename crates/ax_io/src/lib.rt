@@ -18,6 +18,7 @@ ghost use Rattle.std.specs.Io.{ReadsAtMost, WritesAtMost};
 ghost use Rattle.std.specs.Io.KnownBytes.{ReadConsumes, WriteAppends};
 ghost use Rattle.ax_io.specs.Causes.{HasCause};
 
+pub use ax_base::NoMemory;
 pub use memory::{MemSink, MemSource};
 pub use standard::{StdSink, StdSource};
 pub use sure::{SureSink, SureSource};
@@ -26,10 +27,6 @@ pub use whole::{ReadErr, WriteFault, read_up_to, write_whole};
 /// A source or a sink failed in this call.
 #[derive(Clone, Copy, Debug, PartialEq, Eq)]
 pub struct Failed;
-
-/// There was no memory.
-#[derive(Clone, Copy, Debug, PartialEq, Eq)]
-pub struct NoMemory;
 
 /// Where bytes come from.
 pub trait Source {
@@ -71,6 +68,3 @@ pub trait Sink {
     fn faults(&self) -> u64
         ensures { result ≡ fault_count self.now };
 }
-
-#[cfg(test)]
-mod tests;

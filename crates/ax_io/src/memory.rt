@@ -136,17 +136,15 @@ impl MemSink {
         requires { 1 ≤ chunk }
         ensures { IfOk result (λ s. s ≡ record { held = []; room = room; chunk = chunk; failing = failing.items; calls = 0; faults = 0 }) }
     {
-        match Vec::with_capacity(alloc, room) {
-            Err(_) => Err(NoMemory),
-            Ok(bytes) => Ok(MemSink {
-                bytes,
-                room,
-                chunk,
-                failing,
-                calls: 0,
-                faults: 0,
-            }),
-        }
+        let bytes = Vec::with_capacity(alloc, room)?;
+        Ok(MemSink {
+            bytes,
+            room,
+            chunk,
+            failing,
+            calls: 0,
+            faults: 0,
+        })
     }
 
     /// The bytes that it holds.

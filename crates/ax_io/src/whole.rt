@@ -4,7 +4,7 @@ ghost use Rattle.std.specs.Io.KnownBytes.{Appends};
 ghost use Rattle.ax_io.specs.Causes.{HasCause, Rose};
 ghost use Rattle.ax_io.specs.Parts.{AppendsFront, LosesAtMost};
 
-use crate::{Sink, Source};
+use crate::{NoMemory, Sink, Source};
 use std::alloc::Global;
 
 /// Why nothing was read.
@@ -14,6 +14,17 @@ pub enum ReadErr {
     Fault,
     /// There was no memory.
     NoMemory,
+}
+
+impl From<NoMemory> for ReadErr {
+    ghost use Rattle.std.specs.Prelude.{◌≡◌};
+    ghost use Rattle.ax_io.specs.declared.whole.ReadErr.TheVariants.{NoMemory as OutOfMemory};
+
+    ghost from_gives = { λ _ e. e ≡ OutOfMemory };
+
+    fn from(_error: NoMemory) -> ReadErr {
+        ReadErr::NoMemory
+    }
 }
 
 /// The sink failed.

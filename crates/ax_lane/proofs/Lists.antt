@@ -1,10 +1,10 @@
 -- Lists of_tree packets.
-use Rattle.std.proofs.Common.{◌≡◌, ◌≢◌, ◌⊎◌, ℕ, zero, suc, eqb, Bool, true, false, if◌then◌else◌, List, [], ◌∷◌, ◌++◌, length, inl, inr, sym, refl, ap, ◌∙◌, subst, ⊎_elim, eq-eqb, ne_eqb, append-nil}
+use Rattle.std.proofs.Common.{◌≡◌, ◌≢◌, ◌⊎◌, ℕ, zero, suc, ◌+◌, arith, eqb, Bool, true, false, if◌then◌else◌, List, [], ◌∷◌, ◌++◌, length, inl, inr, sym, refl, ap, ◌∙◌, subst, ⊎_elim, eq-eqb, ne_eqb, append-nil}
 use mathlib.Core.Option.{some, some-injective, some-ne-none}
 use lib.ListN.{get_elem?}
 use Rattle.ax_tree.specs.declared.packet.Packet.{Packet}
-use Rattle.ax_lane.specs.Packets.{of_tree, Includes, AllOf}
-use Rattle.ax_lane.specs.Lanes.{IsBack, Backs}
+use Rattle.ax_lane.specs.Packets.{of_tree, places_of, Includes, AllOf}
+use Rattle.ax_lane.specs.Lanes.{Back, IsBack, Backs}
 
 pub of_tree-append : (t : ℕ) (ps qs : List Packet) → of_tree t (ps ++ qs) ≡ of_tree t ps ++ of_tree t qs
 of_tree-append t [] qs = refl
@@ -31,6 +31,28 @@ pub of_tree-unknown : (t : ℕ) (trees : List ℕ) (ps : List Packet) → AllOf 
 of_tree-unknown t trees [] all not = refl
 of_tree-unknown t trees (p ∷ ps) all not = ap (λ (b : Bool). if b then p ∷ of_tree t ps else of_tree t ps) (ne_eqb p.tree t (λ e. not (subst (Includes trees) e all.0))) ∙ of_tree-unknown t trees ps all.1 not
 
+-- a packet more at the back, of the tree or of another
+module _ (t : ℕ) (p : Packet) where
+  pub places-push : (n : ℕ) (ps : List Packet) → p.tree ≡ t → places_of t n (ps ++ p ∷ []) ≡ places_of t n ps ++ (n + length ps) ∷ []
+  places-push n [] e = ap (λ (b : Bool). if b then n ∷ [] else []) (eq-eqb p.tree t e) ∙ ap (λ k. k ∷ []) (omega arith)
+  places-push n (q ∷ ps) e = go (eqb q.tree t) (places-push (suc n) ps e ∙ ap (λ k. places_of t (suc n) ps ++ k ∷ []) (omega arith))
+    where
+      go : (b : Bool) → places_of t (suc n) (ps ++ p ∷ []) ≡ places_of t (suc n) ps ++ (n + suc (length ps)) ∷ []
+          → (if b then n ∷ places_of t (suc n) (ps ++ p ∷ []) else places_of t (suc n) (ps ++ p ∷ []))
+          ≡ (if b then n ∷ places_of t (suc n) ps else places_of t (suc n) ps) ++ (n + suc (length ps)) ∷ []
+      go true e = ap (λ l. n ∷ l) e
+      go false e = e
+
+  pub places-push_other : (n : ℕ) (ps : List Packet) → p.tree ≢ t → places_of t n (ps ++ p ∷ []) ≡ places_of t n ps
+  places-push_other n [] ne = ap (λ (b : Bool). if b then n ∷ [] else []) (ne_eqb p.tree t ne)
+  places-push_other n (q ∷ ps) ne = ap (λ l. if eqb q.tree t then n ∷ l else l) (places-push_other (suc n) ps ne)
+
+pub places-unknown : (t n : ℕ) (trees : List ℕ) (ps : List Packet) → AllOf trees ps → ¬ (Includes trees t) → places_of t n ps ≡ []
+places-unknown t n trees [] all not = refl
+places-unknown t n trees (p ∷ ps) all not =
+    ap (λ (b : Bool). if b then n ∷ places_of t (suc n) ps else places_of t (suc n) ps) (ne_eqb p.tree t (λ e. not (subst (Includes trees) e all.0)))
+    ∙ places-unknown t (suc n) trees ps all.1 not
+
 pub Includes-append : (xs ys : List ℕ) (t : ℕ) → Includes xs t → Includes (xs ++ ys) t
 Includes-append [] ys t h = absurd h
 Includes-append (x ∷ xs) ys t h = ⊎_elim (λ e. inl e) (λ r. inr (Includes-append xs ys t r)) h
@@ -52,19 +74,19 @@ pub AllOf-at : (ts : List ℕ) (ps qs : List Packet) (p : Packet) → AllOf ts (
 AllOf-at ts [] qs p a = a.0
 AllOf-at ts (x ∷ xs) qs p a = AllOf-at ts xs qs p a.1
 
-pub Backs-same : (log log' : List Packet) (trees trees' : List ℕ) (bs : List (ℕ × List Packet)) → ((t : ℕ) → IsBack bs t → of_tree t log' ≡ of_tree t log) → ((t : ℕ) → Includes trees t → Includes trees' t) → Backs log trees bs → Backs log' trees' bs
+pub Backs-same : (log log' : List Packet) (trees trees' : List ℕ) (bs : List Back) → ((t : ℕ) → IsBack bs t → (of_tree t log' ≡ of_tree t log) × (places_of t 0 log' ≡ places_of t 0 log)) → ((t : ℕ) → Includes trees t → Includes trees' t) → Backs log trees bs → Backs log' trees' bs
 Backs-same log log' trees trees' [] same more h = tt
-Backs-same log log' trees trees' (b ∷ bs) same more h = (same b.0 (inl refl) ∙ h.0, more b.0 h.1, Backs-same log log' trees trees' bs (λ t k. same t (inr k)) more h.2)
+Backs-same log log' trees trees' (b ∷ bs) same more h = let e = same b.0 (inl refl) in ((e.0 ∙ h.0.0, e.1 ∙ h.0.1), more b.0 h.1, Backs-same log log' trees trees' bs (λ t k. same t (inr k)) more h.2)
 
-pub Backs-append : (log : List Packet) (trees : List ℕ) (bs cs : List (ℕ × List Packet)) → Backs log trees bs → Backs log trees cs → Backs log trees (bs ++ cs)
+pub Backs-append : (log : List Packet) (trees : List ℕ) (bs cs : List Back) → Backs log trees bs → Backs log trees cs → Backs log trees (bs ++ cs)
 Backs-append log trees [] cs h k = k
 Backs-append log trees (b ∷ bs) cs h k = (h.0, h.1, Backs-append log trees bs cs h.2 k)
 
-pub IsBack-known : (log : List Packet) (trees : List ℕ) (bs : List (ℕ × List Packet)) (t : ℕ) → Backs log trees bs → IsBack bs t → Includes trees t
+pub IsBack-known : (log : List Packet) (trees : List ℕ) (bs : List Back) (t : ℕ) → Backs log trees bs → IsBack bs t → Includes trees t
 IsBack-known log trees [] t h k = absurd k
 IsBack-known log trees (b ∷ bs) t h k = ⊎_elim (λ e. subst (Includes trees) e h.1) (λ r. IsBack-known log trees bs t h.2 r) k
 
-pub IsBack-last : (bs : List (ℕ × List Packet)) (b : ℕ × List Packet) (t : ℕ) → IsBack (bs ++ b ∷ []) t → IsBack bs t ⊎ (b.0 ≡ t)
+pub IsBack-last : (bs : List Back) (b : Back) (t : ℕ) → IsBack (bs ++ b ∷ []) t → IsBack bs t ⊎ (b.0 ≡ t)
 IsBack-last [] b t k = ⊎_elim (λ e. inr e) (λ r. absurd r) k
 IsBack-last (x ∷ xs) b t k = ⊎_elim (λ e. inl (inl e)) (λ r. ⊎_elim (λ u. inl (inr u)) (λ e. inr e) (IsBack-last xs b t r)) k
 

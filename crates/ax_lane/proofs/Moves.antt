@@ -1,5 +1,5 @@
 -- Each move keeps the rule of_tree the lane.
-use Rattle.std.proofs.Common.{◌≡◌, ◌≢◌, ℕ, zero, suc, true, false, true≢false, List, [], ◌∷◌, ◌++◌, length, set, sym, refl, ap, ◌∙◌, subst, ⊎_elim, append_assoc}
+use Rattle.std.proofs.Common.{◌≡◌, ◌≢◌, ℕ, zero, suc, ◌+◌, true, false, true≢false, List, [], ◌∷◌, ◌++◌, length, set, sym, refl, ap, ◌∙◌, subst, ⊎_elim, append_assoc}
 use mathlib.Core.Logic.{dite}
 use mathlib.Core.Option.{some, some-injective, some-ne-none}
 use native.Mathlib.Decide.{ℕ_discrete}
@@ -9,10 +9,10 @@ use Rattle.crossbeam_queue.proofs.Lists.{at_set}
 use Rattle.ax_tree.specs.declared.packet.Packet.{Packet}
 use Rattle.ax_tree.specs.Packets.{IsGood}
 use Rattle.ax_lane.specs.declared.holding.Holding.{Holding}
-use Rattle.ax_lane.specs.Packets.{of_tree, Includes, AllOf}
-use Rattle.ax_lane.specs.Lanes.{sender, taker, nobody, IsBack, Backs, Fits, Apart, Lined, Sent, Taken, Left, hired, returned}
-use Rattle.ax_lane.proofs.GoodFronts.{good_empty, good_front}
-use Rattle.ax_lane.proofs.Lists.{of_tree-append, of_tree-push, of_tree-push_other, of_tree-unknown, Includes-append, Includes-last, AllOf-append, AllOf-wider, AllOf-at, Backs-same, Backs-append, IsBack-known, IsBack-last, at_snoc_or}
+use Rattle.ax_lane.specs.Packets.{of_tree, places_of, Includes, AllOf}
+use Rattle.ax_lane.specs.Lanes.{sender, taker, nobody, IsBack, Stands, Backs, Fits, Apart, Lined, Sent, Taken, Left, hired, returned}
+use Rattle.ax_tree.proofs.GoodFronts.{good_empty, good_front}
+use Rattle.ax_lane.proofs.Lists.{of_tree-append, of_tree-push, of_tree-push_other, of_tree-unknown, places-push, places-push_other, places-unknown, Includes-append, Includes-last, AllOf-append, AllOf-wider, AllOf-at, Backs-same, Backs-append, IsBack-known, IsBack-last, at_snoc_or}
 
 off : false ≡ true → ⊥
 off e = true≢false (sym e)
@@ -58,9 +58,11 @@ pub sends : (n port : ℕ) (v : Holding) (p : Packet) → v.sends ≡ true → p
 sends n port v p may own good items views _ r at =
     let f = r.each port v at in
     let mine = f.sends may in
-    let w : Holding = sender v.tree (v.sent ++ p ∷ []) in
+    let place : ℕ = 0 + length r.log in
+    let w : Holding = sender v.tree (v.sent ++ p ∷ []) (v.places ++ place ∷ []) in
     let log : List Packet = r.log ++ p ∷ [] in
-    let grown : of_tree v.tree log ≡ v.sent ++ p ∷ [] = of_tree-push v.tree r.log p own ∙ ap (λ l. l ++ p ∷ []) mine.0 in (
+    let grown : of_tree v.tree log ≡ v.sent ++ p ∷ [] = of_tree-push v.tree r.log p own ∙ ap (λ l. l ++ p ∷ []) mine.0.0 in
+    let placed : places_of v.tree 0 log ≡ v.places ++ place ∷ [] = places-push v.tree p 0 r.log own ∙ ap (λ l. l ++ place ∷ []) mine.0.1 in (
       w,
       record {
         log = log;
@@ -70,17 +72,25 @@ sends n port v p may own good items views _ r at =
         whole = ap (λ l. l ++ p ∷ []) r.whole ∙ append_assoc r.got items (p ∷ []);
         good = λ t. dite (ℕ_discrete v.tree t) (λ e. subst (λ (k : ℕ). IsGood k (of_tree k log)) e (subst (IsGood v.tree) (sym grown) good)) (λ ne. subst (IsGood t) (sym (of_tree-push_other t r.log p (λ e. ne (sym own ∙ e)))) (r.good t));
         known = AllOf-append r.trees r.log (p ∷ []) r.known (subst (Includes r.trees) (sym own) mine.1, tt);
-        each = fits_set (Fits log r.got r.trees r.seat) views port w record { sends = λ _. (grown, mine.1, refl); takes = λ e. absurd (off e) }
+        each = fits_set (Fits log r.got r.trees r.seat) views port w record { sends = λ _. ((grown, placed), mine.1, refl); takes = λ e. absurd (off e) }
             (λ j u other there.
             let g = r.each j u there in
             let a = r.apart port j v u (λ e. other (sym e)) at there in
             record {
-              sends = λ s. let h = g.sends s in (of_tree-push_other u.tree r.log p (λ e. a.0 may s (sym own ∙ e)) ∙ h.0, h.1, h.2);
-              takes = λ t. let h = g.takes t in (h.0, h.1, h.2, Backs-same r.log log r.trees r.trees u.back (λ k is. of_tree-push_other k r.log p (λ e. a.2 t may (subst (IsBack u.back) (sym e ∙ own) is))) (λ k x. x) h.3);
+              sends = λ s. let h = g.sends s in
+                  let ne : p.tree ≢ u.tree = λ e. a.0 may s (sym own ∙ e) in
+                  ((of_tree-push_other u.tree r.log p ne ∙ h.0.0, places-push_other u.tree p 0 r.log ne ∙ h.0.1), h.1, h.2);
+              takes = λ t. let h = g.takes t in (
+                h.0,
+                h.1,
+                h.2,
+                Backs-same r.log log r.trees r.trees u.back
+                    (λ k is. let ne : p.tree ≢ k = λ e. a.2 t may (subst (IsBack u.back) (sym e ∙ own) is) in (of_tree-push_other k r.log p ne, places-push_other k p 0 r.log ne)) (λ k x. x) h.3,
+              );
             });
         apart = apart_set views port w r.apart (λ j u other there. let a = r.apart port j v u (λ e. other (sym e)) at there in ((λ _ s. a.0 may s), (λ t. absurd (off t)), (λ t _. a.2 t may)));
       },
-      refl,
+      (place, refl),
     )
 
 pub takes : (port : ℕ) (v : Holding) → v.takes ≡ true → v.sends ≡ false → Pops Lined port v (Taken v)
@@ -117,19 +127,19 @@ learns port v may items views r at =
     let log : r.log ≡ v.got ++ items = r.whole ∙ ap (λ l. l ++ items) (sym mine.1) in
     (subst (λ (y : List Packet × List ℕ). Backs y.0 y.1 v.back) (λ i. (log i, sym mine.2 i)) mine.3, subst (λ (y : List Packet × List ℕ). AllOf y.1 y.0) (λ i. (log i, sym mine.2 i)) r.known, λ t. subst (λ (l : List Packet). IsGood t (of_tree t l)) log (r.good t))
 
-pub hires : (port : ℕ) (v : Holding) (tree : ℕ) → v.takes ≡ true → v.sends ≡ false → ¬ (Includes v.trees tree) → Forks Lined port v (hired tree v) (sender tree [])
+pub hires : (port : ℕ) (v : Holding) (tree : ℕ) → v.takes ≡ true → v.sends ≡ false → ¬ (Includes v.trees tree) → Forks Lined port v (hired tree v) (sender tree [] [])
 hires port v tree may idle new items views r at =
     let mine = (r.each port v at).takes may in
     let left : Holding = hired tree v in
-    let right : Holding = sender tree [] in
+    let right : Holding = sender tree [] [] in
     let trees : List ℕ = r.trees ++ tree ∷ [] in
     let vs : List Holding = set views port left in
     let fresh : ¬ (Includes r.trees tree) = λ h. new (subst (λ (l : List ℕ). Includes l tree) (sym mine.2) h) in
-    let none : of_tree tree r.log ≡ [] = of_tree-unknown tree r.trees r.log r.known fresh in
+    let none : Stands r.log tree [] [] = (of_tree-unknown tree r.trees r.log r.known fresh, places-unknown tree 0 r.trees r.log r.known fresh) in
     let more : (t : ℕ) → Includes r.trees t → Includes trees t = λ t h. Includes-append r.trees (tree ∷ []) t h in
     let old : (j : ℕ) (u : Holding) → get_elem? vs j ≡ some u → Fits r.log r.got trees r.seat j u =
     fits_set (Fits r.log r.got trees r.seat) views port left
-    record { sends = λ e. absurd (off e); takes = λ _. (mine.0, mine.1, ap (λ l. l ++ tree ∷ []) mine.2, Backs-same r.log r.log r.trees trees v.back (λ t _. refl) more mine.3) }
+    record { sends = λ e. absurd (off e); takes = λ _. (mine.0, mine.1, ap (λ l. l ++ tree ∷ []) mine.2, Backs-same r.log r.log r.trees trees v.back (λ t _. (refl, refl)) more mine.3) }
     (λ j u other there. let g = r.each j u there in record { sends = λ s. let h = g.sends s in (h.0, more u.tree h.1, h.2); takes = λ t. absurd (other ((g.takes t).0 ∙ sym mine.0)) }) in
     let old_apart = apart_set views port left r.apart (λ j u other there. let a = r.apart port j v u (λ e. other (sym e)) at there in ((λ s. absurd (off s)), (λ _ s. a.1 may s), (λ t s. absurd (off s)))) in
     let new_apart : (j : ℕ) (u : Holding) → get_elem? vs j ≡ some u → Apart right u =
@@ -162,12 +172,12 @@ returns port v other w may idle gives items views r at differ at' =
     let vs : List Holding = set views port both in
     let Fit : ℕ → Holding → Type 0 = Fits r.log r.got r.trees r.seat in
     let first : (j : ℕ) (u : Holding) → get_elem? vs j ≡ some u → Fit j u =
-    fits_set Fit views port both record { sends = λ e. absurd (off e); takes = λ _. (mine.0, mine.1, mine.2, Backs-append r.log r.trees v.back ((w.tree, w.sent) ∷ []) mine.3 (theirs.0, theirs.1, tt)) } (λ j u _ there. r.each j u there) in
+    fits_set Fit views port both record { sends = λ e. absurd (off e); takes = λ _. (mine.0, mine.1, mine.2, Backs-append r.log r.trees v.back ((w.tree, w.sent, w.places) ∷ []) mine.3 (theirs.0, theirs.1, tt)) } (λ j u _ there. r.each j u there) in
     -- among all but the sender that was taken back
     let rest : (j : ℕ) (u : Holding) → j ≢ port → j ≢ other → get_elem? views j ≡ some u → Apart both u = λ j u apart apart' there.
     let a = r.apart port j v u (λ e. apart (sym e)) at there in
     let b = r.apart other j w u (λ e. apart' (sym e)) was there in
-    ((λ s. absurd (off s)), (λ _ s is. ⊎_elim (a.1 may s) (b.0 gives s) (IsBack-last v.back (w.tree, w.sent) u.tree is)), (λ t s. absurd (off s))) in
+    ((λ s. absurd (off s)), (λ _ s is. ⊎_elim (a.1 may s) (b.0 gives s) (IsBack-last v.back (w.tree, w.sent, w.places) u.tree is)), (λ t s. absurd (off s))) in
     let none : (u : Holding) → Apart nobody u = λ u. ((λ s. absurd (off s)), (λ t. absurd (off t)), (λ _ s. absurd (off s))) in
     record {
       log = r.log;

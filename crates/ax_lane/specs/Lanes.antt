@@ -5,32 +5,41 @@ use lib.ListN.{get_elem?}
 use Rattle.ax_tree.specs.declared.packet.Packet.{Packet}
 use Rattle.ax_tree.specs.Packets.{IsGood}
 use Rattle.ax_lane.specs.declared.holding.Holding.{Holding}
-use Rattle.ax_lane.specs.Packets.{of_tree, Includes, AllOf}
+use Rattle.ax_lane.specs.Packets.{of_tree, places_of, Includes, AllOf}
 
-abbrev pub sender : ℕ → List Packet → Holding
-sender tree sent = record { sends = true; tree = tree; sent = sent; takes = false; got = []; trees = []; back = [] }
+-- its tree, what it has sent, and where among all that was ever sent
+abbrev pub sender : ℕ → List Packet → List ℕ → Holding
+sender tree sent places = record { sends = true; tree = tree; sent = sent; places = places; takes = false; got = []; trees = []; back = [] }
+
+-- a sender that was taken back: its tree, what it has sent, and where
+abbrev pub Back : Type 0
+Back = ℕ × List Packet × List ℕ
 
 -- it has made senders for these trees, and taken back those that sent these lists
-abbrev pub taker : List Packet → List ℕ → List (ℕ × List Packet) → Holding
-taker got trees back = record { sends = false; tree = 0; sent = []; takes = true; got = got; trees = trees; back = back }
+abbrev pub taker : List Packet → List ℕ → List Back → Holding
+taker got trees back = record { sends = false; tree = 0; sent = []; places = []; takes = true; got = got; trees = trees; back = back }
 
 -- what is left of a sender that was taken back
 abbrev pub nobody : Holding
-nobody = record { sends = false; tree = 0; sent = []; takes = false; got = []; trees = []; back = [] }
+nobody = record { sends = false; tree = 0; sent = []; places = []; takes = false; got = []; trees = []; back = [] }
 
 -- the tree's sender was taken back
-abbrev pub IsBack : List (ℕ × List Packet) → ℕ → Type 0
+abbrev pub IsBack : List Back → ℕ → Type 0
 IsBack [] t = ⊥
 IsBack (b ∷ bs) t = (b.0 ≡ t) ⊎ IsBack bs t
 
--- of each tree that was taken back, the log has what its sender sent
-abbrev pub Backs : List Packet → List ℕ → List (ℕ × List Packet) → Type 0
+-- of the tree the log has these packets, at these places
+abbrev pub Stands : List Packet → ℕ → List Packet → List ℕ → Type 0
+Stands log tree sent places = (of_tree tree log ≡ sent) × (places_of tree 0 log ≡ places)
+
+-- of each tree that was taken back, the log has what its sender sent, where it was sent
+abbrev pub Backs : List Packet → List ℕ → List Back → Type 0
 Backs log trees [] = Unit {0}
-Backs log trees (b ∷ bs) = (of_tree b.0 log ≡ b.1) × Includes trees b.0 × Backs log trees bs
+Backs log trees (b ∷ bs) = Stands log b.0 b.1 b.2 × Includes trees b.0 × Backs log trees bs
 
 -- what the rule says of one end: a sender has sent what the log has of its tree, and one end alone takes
 pub record Fits (log got : List Packet) (trees : List ℕ) (seat port : ℕ) (v : Holding) : Type 0 where
-  pub sends : v.sends ≡ true → (of_tree v.tree log ≡ v.sent) × Includes trees v.tree × (v.takes ≡ false)
+  pub sends : v.sends ≡ true → Stands log v.tree v.sent v.places × Includes trees v.tree × (v.takes ≡ false)
   pub takes : v.takes ≡ true → (port ≡ seat) × (v.got ≡ got) × (v.trees ≡ trees) × Backs log trees v.back
 
 -- one sender for each tree, and none for a tree that was taken back
@@ -53,9 +62,9 @@ pub record Lined (items : List Packet) (views : List Holding) : Type 0 where
   pub each : (port : ℕ) (v : Holding) → get_elem? views port ≡ some v → Fits log got trees seat port v
   pub apart : (i j : ℕ) (v w : Holding) → ¬ (i ≡ j) → get_elem? views i ≡ some v → get_elem? views j ≡ some w → Apart v w
 
--- the packet was sent
+-- the packet was sent, and stands at a place
 abbrev pub Sent : Holding → Packet → Holding → Type 0
-Sent v p w = w ≡ sender v.tree (v.sent ++ p ∷ [])
+Sent v p w = (place : ℕ) × (w ≡ sender v.tree (v.sent ++ p ∷ []) (v.places ++ place ∷ []))
 
 -- the packet was taken, its tree is known, and what was taken of its tree is good
 abbrev pub Taken : Holding → Packet → Holding → Type 0
@@ -74,4 +83,4 @@ hired tree v = taker v.got (v.trees ++ tree ∷ []) v.back
 
 -- the taker that has taken one sender back
 abbrev pub returned : Holding → Holding → Holding
-returned v w = taker v.got v.trees (v.back ++ (w.tree, w.sent) ∷ [])
+returned v w = taker v.got v.trees (v.back ++ (w.tree, w.sent, w.places) ∷ [])

@@ -1,11 +1,16 @@
 -- The packets of one tree among others, and the trees of a lane.
-use Rattle.std.specs.Prelude.{◌≡◌, ℕ, List, [], ◌∷◌, ◌⊎◌, ◌==◌, if◌then◌else◌}
+use Rattle.std.specs.Prelude.{◌≡◌, ℕ, suc, List, [], ◌∷◌, ◌⊎◌, ◌==◌, if◌then◌else◌}
 use Rattle.ax_tree.specs.declared.packet.Packet.{Packet}
 
 -- the packets of one tree, in order
 abbrev pub of_tree : ℕ → List Packet → List Packet
 of_tree t [] = []
 of_tree t (p ∷ ps) = if p.tree == t then p ∷ of_tree t ps else of_tree t ps
+
+-- where they stand, counted from a number
+abbrev pub places_of : ℕ → ℕ → List Packet → List ℕ
+places_of t from [] = []
+places_of t from (p ∷ ps) = if p.tree == t then from ∷ places_of t (suc from) ps else places_of t (suc from) ps
 
 -- the tree is one of these
 abbrev pub Includes : List ℕ → ℕ → Type 0

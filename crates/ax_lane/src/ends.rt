@@ -14,7 +14,8 @@ pub(crate) type Line = RuledSegQueue<Packet, Holding, InOrder>;
 
 /// Who sends the packets of one tree.
 ///
-/// Contracts see its lane, its tree, and the packets that it has sent.
+/// Contracts see its lane, its tree, the packets that it has sent, and at which places these stand among all packets
+/// that were ever sent.
 #[derive(Drop)]
 pub struct Tx {
     pub(crate) pass: SegPass<Packet, Holding>,

@@ -1,9 +1,11 @@
+//! The lane itself.
+
 ghost use Rattle.std.specs.Prelude.{◌≡◌, ℕ, ◌++◌, [], ◌∷◌, true, false, map, All, IfOk, IfSome, IfNone, MatchResult, MatchOption};
 ghost use Rattle.crossbeam_queue.specs.SegTies.{IsSegPassOf};
 ghost use Rattle.ax_tree.specs.Packets.{IsGood};
-ghost use Rattle.ax_lane.specs.Ends.{IsNextLull, new_sender, pair_of};
+ghost use Rattle.ax_lane.specs.Ends.{IsNextLull, back_of, new_sender, sent_at};
 ghost use Rattle.ax_lane.specs.Lanes.{taker, hired, Left};
-ghost use Rattle.ax_lane.specs.Packets.{of_tree, Includes, AllDiffer, AllOf};
+ghost use Rattle.ax_lane.specs.Packets.{of_tree, places_of, Includes, AllDiffer, AllOf};
 
 use crate::ends::{Line, Pass, Rx, Tx};
 use crate::rule::{Hire, Of, Pops, Pushes, Return};
@@ -69,13 +71,13 @@ impl Lane {
         }
     }
 
-    /// Adds a packet of the sender's tree at the back. Without memory the packet is given back, and the sender is as it
-    /// was.
+    /// Adds a packet of the sender's tree at the back, and its place in the order of all packets is then fixed. Without
+    /// memory the packet is given back, and the sender is as it was.
     pub fn send<R: Wait>(&self, rt: &R, tx: &mut Tx, p: Packet) -> Result<(), (NoMemory, Packet)>
         requires sender { tx.old.lane ≡ self.now }
         requires tree { p.tree ≡ tx.old.tree }
         requires good { IsGood tx.old.tree (tx.old.sent ++ p ∷ []) }
-        ensures { MatchResult result (λ _. tx.new ≡ record tx.old { sent = tx.old.sent ++ p ∷ [] }) (λ refused. (refused.1 ≡ p) × (tx.new ≡ tx.old)) }
+        ensures { MatchResult result (λ _. (place : ℕ) × (tx.new ≡ sent_at place p tx.old)) (λ refused. (refused.1 ≡ p) × (tx.new ≡ tx.old)) }
     {
         match self.queue.push_as::<Pushes, R>(rt, &mut tx.pass, p) {
             Ok(()) => Ok(()),
@@ -92,12 +94,26 @@ impl Lane {
         // The packet's tree is one of the lane's, and what was taken of it is good.
         ensures known { IfSome result (λ p. Includes rx.old.trees p.tree) }
         ensures good { IfSome result (λ p. IsGood p.tree (of_tree p.tree rx.new.got)) }
+
+        // Where the lane was empty, all that was taken is of its trees, and of each tree good.
+        ensures empty { IfNone result (AllOf rx.old.trees rx.new.got × ((t : ℕ) → IsGood t (of_tree t rx.new.got))) }
     {
-        let front = self.queue.pop_as::<Pops, R>(rt, &mut rx.pass);
+        let front = self.pop(rt, rx);
         if front.is_none() && rx.lulls < u64::MAX {
             rx.lulls += 1;
         }
         front
+    }
+
+    // The count of lulls stays.
+    fn pop<R: Wait>(&self, rt: &R, rx: &mut Rx) -> Option<Packet>
+        requires { rx.old.lane ≡ self.now }
+        ensures got { MatchOption result (rx.new ≡ rx.old) (λ p. rx.new ≡ record rx.old { got = rx.old.got ++ p ∷ [] }) }
+        ensures known { IfSome result (λ p. Includes rx.old.trees p.tree) }
+        ensures good { IfSome result (λ p. IsGood p.tree (of_tree p.tree rx.new.got)) }
+        ensures empty { IfNone result (AllOf rx.old.trees rx.new.got × ((t : ℕ) → IsGood t (of_tree t rx.new.got))) }
+    {
+        self.queue.pop_as::<Pops, R>(rt, &mut rx.pass)
     }
 
     /// Ends the lane by its taker and all its senders, and gives the packets that are left, front first. Without memory
@@ -106,8 +122,10 @@ impl Lane {
         requires taker { taker.lane ≡ self }
         requires senders { All (λ t. t.lane ≡ self) senders.items }
 
-        // For each sender's tree, what the taker got and then what is left is what the sender has sent.
+        // For each sender's tree, what the taker got and then what is left is what the sender has sent, and each packet
+        // stands at the place that its sending gave it: what is left stands as it stood in the lane.
         ensures whole { IfOk result (λ left. All (λ t. of_tree t.tree (taker.got ++ left.items) ≡ t.sent) senders.items) }
+        ensures order { IfOk result (λ left. All (λ t. places_of t.tree 0 (taker.got ++ left.items) ≡ t.places) senders.items) }
         ensures known { IfOk result (λ left. AllOf taker.trees left.items) }
         ensures good { IfOk result (λ left. (t : ℕ) → IsGood t (of_tree t (taker.got ++ left.items))) }
     {
@@ -175,7 +193,7 @@ fn take_back(queue: &Line, pass: &mut Pass, senders: Senders)
     requires taker { (pass.old.me.view.client.takes ≡ true) × (pass.old.me.view.client.sends ≡ false) }
     requires senders { All (λ t. t.lane ≡ queue.now) senders.items }
     ensures queue { IsSegPassOf queue.now pass.new }
-    ensures view { (pass.new.me.view.client.takes ≡ true) × (pass.new.me.view.client.sends ≡ false) × (pass.new.me.view.client.got ≡ pass.old.me.view.client.got) × (pass.new.me.view.client.trees ≡ pass.old.me.view.client.trees) × (pass.new.me.view.client.back ≡ pass.old.me.view.client.back ++ map pair_of senders.items) }
+    ensures view { (pass.new.me.view.client.takes ≡ true) × (pass.new.me.view.client.sends ≡ false) × (pass.new.me.view.client.got ≡ pass.old.me.view.client.got) × (pass.new.me.view.client.trees ≡ pass.old.me.view.client.trees) × (pass.new.me.view.client.back ≡ pass.old.me.view.client.back ++ map back_of senders.items) }
 {
     for tx in senders {
         take_one_back(queue, pass, tx);
@@ -187,7 +205,7 @@ fn take_one_back(queue: &Line, pass: &mut Pass, tx: Tx)
     requires taker { (pass.old.me.view.client.takes ≡ true) × (pass.old.me.view.client.sends ≡ false) }
     requires sender { tx.lane ≡ queue.now }
     ensures queue { IsSegPassOf queue.now pass.new }
-    ensures view { pass.new.me.view.client ≡ taker pass.old.me.view.client.got pass.old.me.view.client.trees (pass.old.me.view.client.back ++ pair_of tx ∷ []) }
+    ensures view { pass.new.me.view.client ≡ taker pass.old.me.view.client.got pass.old.me.view.client.trees (pass.old.me.view.client.back ++ back_of tx ∷ []) }
 {
     let Tx { pass: other } = tx;
     queue.absorb::<Return>(pass, other);

@@ -63,7 +63,7 @@ impl<O: Of> Split<Holding> for Hire<O> {
 
     ghost left = { hired O.tree };
 
-    ghost right = { λ _. sender O.tree [] };
+    ghost right = { λ _. sender O.tree [] [] };
 }
 
 /// To take a sender back.

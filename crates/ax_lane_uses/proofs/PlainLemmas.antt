@@ -6,7 +6,7 @@ use Rattle.ax_tree.specs.declared.packet.Packet.{Packet}
 use Rattle.ax_tree.specs.Tree.{empty}
 use Rattle.ax_tree.specs.Updates.{applied_all}
 use Rattle.ax_tree.specs.Packets.{edited_all, source_at, GoodAt, IsGood}
-use Rattle.ax_lane.specs.Ends.{LaneId, TxView, new_sender}
+use Rattle.ax_lane.specs.Ends.{LaneId, TxView, new_sender, sent_at}
 use Rattle.ax_lane.specs.Packets.{of_tree}
 use Rattle.ax_lane_uses.specs.Plain.{IsPlain, AllPlain, IsWhole, IsNewSender, HasSent}
 
@@ -62,9 +62,9 @@ whole_of lane tree count tx log sent same =
     let e : of_tree tree log ≡ tx.sent = ap (λ t. of_tree t log) (sym sent.for_tree) ∙ same in
     record { in_order = subst (AllPlain tree) (sym e) sent.in_order; all_there = ap length e ∙ sent.all_there }
 
-pub sent_one_more : (lane : LaneId) (tree n : ℕ) (old new : TxView) (p : Packet) → HasSent lane tree n old → IsPlain tree (n + 1) p
-    → new ≡ record old { sent = old.sent ++ p ∷ [] } → HasSent lane tree (n + 1) new
-sent_one_more lane tree n old new p sent plain e = record {
+pub sent_one_more : (lane : LaneId) (tree n place : ℕ) (old new : TxView) (p : Packet) → HasSent lane tree n old → IsPlain tree (n + 1) p
+    → new ≡ sent_at place p old → HasSent lane tree (n + 1) new
+sent_one_more lane tree n place old new p sent plain e = record {
   of = ap (λ t. t.lane) e ∙ sent.of;
   for_tree = ap (λ t. t.tree) e ∙ sent.for_tree;
   in_order = subst (AllPlain tree) (sym (ap (λ t. t.sent) e)) (plain_push tree n old.sent p sent.all_there sent.in_order plain);

@@ -1,3 +1,4 @@
+//! What three threads sent and took, whatever the schedule.
 use crate::exchange;
 use std::test::*;
 

@@ -1,3 +1,4 @@
+//! Two senders and a taker in threads.
 ghost use Rattle.std.specs.Prelude.{◌≡◌, ◌+◌, ◌<◌, ◌^◌, ◌++◌, [], ◌∷◌, IfSome, length};
 ghost use Rattle.ax_lane.specs.Ends.{new_sender};
 ghost use Rattle.ax_lane.specs.Packets.{of_tree};

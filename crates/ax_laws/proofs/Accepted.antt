@@ -11,7 +11,8 @@ use Rattle.ax_tree.specs.UpdateRule.{draft_node, draft_of, finished, missing, st
 use Rattle.ax_trees.specs.Changes.{with_node}
 use Rattle.ax_trees.specs.Nodes.{below}
 use Rattle.ax_trees.specs.Trees.{IsDistinct, Trees, bare, has, height, is_root, roots, tree}
-use Rattle.ax_laws.proofs.Drafts.{below-draft, distinct-draft, has-draft, is_root-draft, listed-draft, merged-draft, passes, reach_fits-draft, roots-draft, roots_fit-draft, with_node-draft}
+use Rattle.ax_tree.proofs.Drafts.{below-draft, distinct-draft, has-draft, is_root-draft, listed-draft, passes, roots-draft, with_node-draft}
+use Rattle.ax_laws.proofs.MergedDrafts.{merged-draft, reach_fits-draft, roots_fit-draft}
 use Rattle.ax_laws.proofs.LawOfReach.{law_reach}
 use Rattle.ax_laws.proofs.Merged.{merged_all, reach_fits_none, roots_fit_none}
 use Rattle.ax_trees.proofs.Changed.{distinct_with_node, has-with_node_known, has_with_node, with_node-with_node}

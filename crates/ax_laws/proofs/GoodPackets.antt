@@ -1,10 +1,10 @@
 -- Good packets, and packets that fit a journal.
-use Rattle.std.proofs.Common.{ℕ, zero, suc, ◌+◌, ◌≡◌, ◌≤◌, ◌<◌, ◌⊎◌, inl, inr, Bool, true, false, cond, eqb, List, [], ◌∷◌, ◌++◌, length, map, take, refl, sym, ap, ◌∙◌, subst, arith, Some, Ok, append_assoc, length-append}
-use Rattle.std.specs.Prelude.{is_none, slice_get}
+use Rattle.std.proofs.Common.{ℕ, suc, ◌+◌, ◌≡◌, ◌⊎◌, inl, inr, Bool, true, false, cond, eqb, List, [], ◌∷◌, ◌++◌, length, map, take, refl, sym, ap, ◌∙◌, subst, arith, Ok, append_assoc, length-append}
+use Rattle.std.specs.Prelude.{is_none}
 use Rattle.std.specs.List.{flat_map}
 use Rattle.std.proofs.lemmas.Bool.Decides.{eqb_tells}
 use Rattle.std.proofs.lemmas.Bool.{false≢true}
-use Rattle.std.proofs.lemmas.List.{append-nil, map-append, take-append-le}
+use Rattle.std.proofs.lemmas.List.{append-nil, map-append}
 use Rattle.std.proofs.Math.Seq.{take-append_seam, take-length}
 use Rattle.std.proofs.lemmas.Grind.{flat_map-append}
 use Rattle.ax_trees.specs.Trees.{is_bare, has}
@@ -16,80 +16,12 @@ use Rattle.ax_tree.specs.MarkRule.{add_mark}
 use Rattle.ax_tree.specs.Tree.{Tree, empty}
 use Rattle.ax_tree.specs.Edits.{edited, refusal}
 use Rattle.ax_tree.specs.Updates.{applied_all}
-use Rattle.ax_tree.specs.Journals.{Frame, new_frame, pending, after_edit, after_entry, frame_from, frame_of, packet_at, made_at, made_from, packets_of}
-use Rattle.ax_tree.specs.Packets.{edited_all, source_at, GoodAt, IsGood, Head, head_of, Fits}
+use Rattle.ax_tree.specs.Journals.{edit_taken, Frame, new_frame, pending, after_edit, after_entry, frame_from, frame_of, packet_at, made_at, made_from, packets_of}
+use Rattle.ax_tree.specs.Packets.{edited_all, source_at, GoodAt, Head, head_of, Fits}
 use Rattle.ax_trees.proofs.Trees.{by_go}
+use Rattle.ax_tree.proofs.GoodFronts.{edited_all-append, slips, good_push}
 use Rattle.ax_laws.proofs.Sent.{bundle_reach}
 use Rattle.ax_laws.proofs.FrameSteps.{Kept, kept_frame, frame_push}
-
--- ---- lists
-
-slice_get-front : {A : Type 0} (xs ys : List A) (k : ℕ) → k < length xs → slice_get (xs ++ ys) k ≡ slice_get xs k
-slice_get-front [] ys k h = absurd (omega arith)
-slice_get-front (x ∷ xs) ys zero h = refl
-slice_get-front (x ∷ xs) ys (suc k) h = slice_get-front xs ys k (omega arith)
-
-slice_get-seam : {A : Type 0} (xs : List A) (x : A) (k : ℕ) (y : A) → slice_get (xs ++ (x ∷ [])) k ≡ Some y → (k < length xs) ⊎ ((k ≡ length xs) × (x ≡ y))
-slice_get-seam [] x zero y h = inr (refl, cc)
-slice_get-seam [] x (suc k) y h = absurd (cc)
-slice_get-seam (z ∷ xs) x zero y h = inl (omega arith)
-slice_get-seam (z ∷ xs) x (suc k) y h = go (slice_get-seam xs x k y h)
-  where
-    go : (k < length xs) ⊎ ((k ≡ length xs) × (x ≡ y)) → (suc k < suc (length xs)) ⊎ ((suc k ≡ suc (length xs)) × (x ≡ y))
-    go (inl l) = inl (omega (arith, l))
-    go (inr e) = inr (ap suc e.0, e.1)
-
-slice_get_short : {A : Type 0} (xs : List A) (k : ℕ) (y : A) → slice_get xs k ≡ Some y → k < length xs
-slice_get_short [] k y h = absurd (cc)
-slice_get_short (x ∷ xs) zero y h = omega arith
-slice_get_short (x ∷ xs) (suc k) y h = omega (arith, slice_get_short xs k y h)
-
-pub edited_all-append : (xs ys : List Edit) (s : Tree) → edited_all (xs ++ ys) s ≡ edited_all ys (edited_all xs s)
-edited_all-append [] ys s = refl
-edited_all-append (x ∷ xs) ys s = edited_all-append xs ys (edited x s)
-
-abbrev pub slips : List Packet → List Edit
-slips ps = flat_map (λ (p : Packet). p.slip) ps
-
--- ---- good packets
-
--- up to a front, more packets change no source
-source_at-front : (t : ℕ) (xs ys : List Packet) (k : ℕ) → k ≤ length xs → source_at t (xs ++ ys) k ≡ source_at t xs k
-source_at-front t xs ys k h = ap (λ ps. edited_all (slips ps) (empty t)) (take-append-le k xs ys h)
-
-good_at-front : (t : ℕ) (xs ys : List Packet) (k : ℕ) (p : Packet) → k < length xs → GoodAt t xs k p → GoodAt t (xs ++ ys) k p
-good_at-front t xs ys k p h g = record {
-  of_tree = g.of_tree;
-  pass = g.pass;
-  base = g.base;
-  gives = ap (λ s. applied_all p.bundle (cond (eqb p.base.0 0) (empty t) s)) (source_at-front t xs ys k (omega arith))
-      ∙ (g.gives ∙ ap Ok (sym (source_at-front t xs ys (suc k) (omega arith))));
-}
-
-good_at-back : (t : ℕ) (xs ys : List Packet) (k : ℕ) (p : Packet) → k < length xs → GoodAt t (xs ++ ys) k p → GoodAt t xs k p
-good_at-back t xs ys k p h g = record {
-  of_tree = g.of_tree;
-  pass = g.pass;
-  base = g.base;
-  gives = ap (λ s. applied_all p.bundle (cond (eqb p.base.0 0) (empty t) s)) (sym (source_at-front t xs ys k (omega arith)))
-      ∙ (g.gives ∙ ap Ok (source_at-front t xs ys (suc k) (omega arith)));
-}
-
--- A front of a good list is good.
-pub good_front : (t : ℕ) (xs ys : List Packet) → IsGood t (xs ++ ys) → IsGood t xs
-good_front t xs ys g = record {
-  at = λ k p h. let l : k < length xs = slice_get_short xs k p h in
-      good_at-back t xs ys k p l (g.at k p (slice_get-front xs ys k l ∙ h));
-}
-
-pub good_push : (t : ℕ) (xs : List Packet) (p : Packet) → IsGood t xs → GoodAt t (xs ++ (p ∷ [])) (length xs) p → IsGood t (xs ++ (p ∷ []))
-good_push t xs p g last = record {
-  at = λ k q h. go k q h (slice_get-seam xs p k q h);
-}
-  where
-    go : (k : ℕ) (q : Packet) → slice_get (xs ++ (p ∷ [])) k ≡ Some q → (k < length xs) ⊎ ((k ≡ length xs) × (p ≡ q)) → GoodAt t (xs ++ (p ∷ [])) k q
-    go k q h (inl l) = good_at-front t xs (p ∷ []) k q l (g.at k q (sym (slice_get-front xs (p ∷ []) k l) ∙ h))
-    go k q h (inr e) = subst (λ (r : Packet). GoodAt t (xs ++ (p ∷ [])) k r) e.1 (subst (λ (j : ℕ). GoodAt t (xs ++ (p ∷ [])) j p) (sym e.0) last)
 
 -- ---- packets of a journal
 
@@ -102,18 +34,21 @@ pub record Made (t : ℕ) (f : Frame) (ps : List Packet) : Type 0 where
 same_made : (t : ℕ) (f : Frame) (ps : List Packet) → Made t f ps → Made t f (ps ++ [])
 same_made t f ps m = subst (λ qs. Made t f qs) (sym (append-nil ps)) m
 
-slips-push : (ps : List Packet) (p : Packet) → slips (ps ++ (p ∷ [])) ≡ slips ps ++ p.slip
+pub slips-push : (ps : List Packet) (p : Packet) → slips (ps ++ (p ∷ [])) ≡ slips ps ++ p.slip
 slips-push ps p = flat_map-append (λ (q : Packet). q.slip) ps (p ∷ []) ∙ ap (λ l. slips ps ++ l) (append-nil p.slip)
 
-length-push : {A : Type 0} (xs : List A) (x : A) → length (xs ++ (x ∷ [])) ≡ suc (length xs)
+pub length-push : {A : Type 0} (xs : List A) (x : A) → length (xs ++ (x ∷ [])) ≡ suc (length xs)
 length-push xs x = omega (arith, length-append xs (x ∷ []))
+
+taken : (e : Edit) (s : Tree) → is_none (refusal e s) ≡ true → edited e s ≡ edit_taken e s
+taken e s q = rw q refl
 
 made_edit : (t : ℕ) (e : Edit) (f : Frame) (ps : List Packet) → Made t f ps → Made t (after_edit e f) ps
 made_edit t e f ps m =
     by_go (is_none (refusal e f.source))
     (λ q. rw q record {
       count = m.count;
-      source = ap (edited e) m.source ∙ sym (edited_all-append f.slip (e ∷ []) (edited_all (slips ps) (empty t)));
+      source = taken e f.source q ∙ (ap (edit_taken e) m.source ∙ sym (edited_all-append f.slip (e ∷ []) (edited_all (slips ps) (empty t))));
       sent = m.sent;
     })
     (λ q. rw q m)
@@ -154,7 +89,7 @@ pub made_frame : (t : ℕ) (journal : List JEntry) → Made t (frame_of t journa
 made_frame t journal = made_all t journal (new_frame t) [] (made_new t)
 
 -- packets with the same heads have the same slips
-slips_heads : (ps : List Packet) → flat_map (λ (h : Head). h.slip) (map head_of ps) ≡ slips ps
+pub slips_heads : (ps : List Packet) → flat_map (λ (h : Head). h.slip) (map head_of ps) ≡ slips ps
 slips_heads [] = refl
 slips_heads (p ∷ ps) = ap (λ l. p.slip ++ l) (slips_heads ps)
 
@@ -179,7 +114,7 @@ packets_push t (x ∷ es) e f =
 
 -- ---- fits
 
-passes_entry : (t : ℕ) (e : JEntry) (f : Frame) → (after_entry t e f).passes ≡ f.passes + length (made_at t e f)
+pub passes_entry : (t : ℕ) (e : JEntry) (f : Frame) → (after_entry t e f).passes ≡ f.passes + length (made_at t e f)
 passes_entry t (Edited e) f = by_go (is_none (refusal e f.source)) (λ q. rw q (omega arith)) (λ q. rw q (omega arith))
 passes_entry t (Marked z) f = by_go (has f.source.trees z) (λ q. rw q (omega arith)) (λ q. rw q (omega arith))
 passes_entry t (MarkedBelow z) f = omega arith
@@ -259,7 +194,7 @@ packet_reach t journal =
 pub fits_new : (t : ℕ) → Fits t [] []
 fits_new t = record { good = record { at = λ k p h. absurd (cc) }; count = refl; heads = refl }
 
-none_or_made : (t : ℕ) (e : JEntry) (f : Frame) → (made_at t e f ≡ []) ⊎ ((e ≡ Passed) × (pending f ≡ true))
+pub none_or_made : (t : ℕ) (e : JEntry) (f : Frame) → (made_at t e f ≡ []) ⊎ ((e ≡ Passed) × (pending f ≡ true))
 none_or_made t (Edited e) f = inl refl
 none_or_made t (Marked z) f = inl refl
 none_or_made t (MarkedBelow z) f = inl refl

@@ -9,7 +9,7 @@ use Rattle.ax_tree.specs.SerialRule.{listed}
 use Rattle.ax_trees.specs.Changes.{with_node}
 use Rattle.ax_trees.specs.Nodes.{Node, below}
 use Rattle.ax_trees.specs.Trees.{IsDistinct, Trees, bare, has, roots, tree}
-use Rattle.ax_laws.proofs.Arranged.{arranged_from, distinct_arranged, only_in}
+use Rattle.ax_tree.proofs.Arranged.{arranged_from, distinct_arranged, only_in}
 use Rattle.ax_laws.proofs.Parts.{nodes_left, nodes_right, over}
 use Rattle.ax_laws.proofs.Siblings.{first_taken, law_siblings, located}
 use Rattle.ax_trees.proofs.Changed.{outside, with_node_from, with_node_here, with_node_in, with_node_past}

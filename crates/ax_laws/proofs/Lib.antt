@@ -1,10 +1,9 @@
 pub mod Merged
-pub mod Arranged
 pub mod Listed
 pub mod Parts
 pub mod Siblings
 pub mod LawOfReach
-pub mod Drafts
+pub mod MergedDrafts
 pub mod PlainFits
 pub mod Accepted
 pub mod Served
@@ -14,10 +13,12 @@ pub mod EditsKeep
 pub mod Shapes
 pub mod Reachings
 pub mod SameShapes
-pub mod NodeSteps
+pub mod Alike
+pub mod AlikeResults
 pub mod Sent
 pub mod FrameSteps
 pub mod GoodPackets
+pub mod PassSources
 pub mod InOrder
 pub mod Updated
 pub mod FiniteMaps

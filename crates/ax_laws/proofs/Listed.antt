@@ -2,16 +2,14 @@
 use Rattle.std.proofs.Common.{Bool, List, [], arith, cond, eqb, false, refl, true, ℕ, ◌++◌, ◌||◌, ◌∙◌, ◌∷◌, ◌≡◌}
 use Rattle.std.proofs.lemmas.Bool.Decides.{eqb_tells}
 use Rattle.std.proofs.lemmas.Bool.{false_from_ne_true, false≢true}
-use Rattle.std.specs.List.{flat_map}
 use Rattle.ax_tree.specs.InStep.{lists}
-use Rattle.ax_tree.specs.SerialRule.{from_root, listed}
+use Rattle.ax_tree.specs.SerialRule.{listed}
 use Rattle.ax_trees.specs.Lists.{any_that, last_that}
-use Rattle.ax_trees.specs.Nodes.{Node, below, chain, root_below, root_known, tree_at}
-use Rattle.ax_trees.specs.Trees.{IsDistinct, Trees, bare, has, has_root, roots, tree}
+use Rattle.ax_trees.specs.Nodes.{Node, below, chain}
+use Rattle.ax_trees.specs.Trees.{IsDistinct, Trees, bare, has, tree}
 use Rattle.ax_trees.proofs.Chains.{chain_in}
-use Rattle.ax_trees.proofs.Lists.{last_none, last_some, split}
-use Rattle.ax_trees.proofs.Nodes.{tree_at_child}
-use Rattle.ax_trees.proofs.Trees.{by_go, distinct_below, root_in}
+use Rattle.ax_trees.proofs.Lists.{last_none, last_some}
+use Rattle.ax_trees.proofs.Trees.{by_go}
 
 pub lists-append : {X : Type 0} (us vs : List (Node X)) (z : ℕ) → lists (us ++ vs) z ≡ (lists us z || lists vs z)
 lists-append [] vs z = refl
@@ -52,19 +50,3 @@ chain_held p go (tree i e k r) d f new dw h n =
 pub lists_all : {X : Type 0} (w : Trees X) (z : ℕ) → lists (listed (λ _. true) w) z ≡ has w z
 lists_all bare z = refl
 lists_all (tree i e k r) z = grind (arith, lists_all k z, lists_all r z, lists-append (listed (λ _. true) k) (listed (λ _. true) r) z)
-
-pub listed_roots : {X : Type 0} (go : ℕ → Bool) (f : X) (g : ℕ → Trees X) (w : Trees X) → IsDistinct w
-    → ((c : ℕ) → has_root w c ≡ true → g c ≡ tree c (root_known f w c) (root_below w c) bare)
-    → listed go w ≡ flat_map (λ c. cond (go c) (from_root go (g c)) []) (roots w)
-listed_roots go f g bare d h = refl
-listed_roots {X} go f g (tree c e k r) d h =
-    let self : eqb c c ≡ true = grind (arith, eqb_tells c c) in
-    let at : g c ≡ tree c e k bare = rw self at (h c (grind (arith, self))) in
-    let later : listed go r ≡ flat_map (λ y. cond (go y) (from_root go (g y)) []) (roots r) =
-    listed_roots go f g r d.4 (λ y t. let no : eqb c y ≡ false = grind (arith, eqb_tells c y, d.1, root_in r y t) in rw no at (h y (grind (arith, t)))) in
-    rw (at, ← later) (split (go c) (record { id = c; known = e; children = roots k }) (listed go k) (listed go r))
-
--- The list below a node, child by child: the step of a walk.
-pub listed_below : {X : Type 0} (go : ℕ → Bool) (f : X) (s : Trees X) (y : ℕ) → IsDistinct s
-    → listed go (below s y) ≡ flat_map (λ c. cond (go c) (from_root go (tree_at s c)) []) (roots (below s y))
-listed_below go f s y d = listed_roots go f (tree_at s) (below s y) (distinct_below s y d) (λ c t. tree_at_child f s y c d t)

@@ -9,7 +9,7 @@ use Rattle.ax_tree.specs.SerialRule.{listed}
 use Rattle.ax_trees.specs.Changes.{with_node}
 use Rattle.ax_trees.specs.Nodes.{below, node_at, root_below, root_known}
 use Rattle.ax_trees.specs.Trees.{IsDistinct, Trees, bare, has, has_root, height, roots, tree}
-use Rattle.ax_laws.proofs.Arranged.{arranged_from, distinct_arranged}
+use Rattle.ax_tree.proofs.Arranged.{arranged_from, distinct_arranged}
 use Rattle.ax_laws.proofs.Listed.{listed_has, lists-append}
 use Rattle.ax_trees.proofs.Changed.{outside, with_node_from}
 use Rattle.ax_trees.proofs.Nodes.{height_root_below, node_root, node_root_below}

@@ -14,7 +14,7 @@ use Rattle.ax_tree.specs.Tree.{Tree, as_node, data_of}
 use Rattle.ax_tree.specs.Updates.{nodes_part, with_data, told, applied, next_applied, applied_from, applied_all}
 use Rattle.ax_tree.specs.Serialised.{riding, alone, with_tree_data, resumed_bundle, bundle_of, InStep}
 use Rattle.ax_trees.proofs.Lists.{same_Ok}
-use Rattle.ax_laws.proofs.Drafts.{passes}
+use Rattle.ax_tree.proofs.Drafts.{passes}
 use Rattle.ax_laws.proofs.BundlesReach.{updates_reach, resumed_reach}
 
 -- node data of a node is that node

@@ -12,7 +12,7 @@ use Rattle.ax_trees.specs.Lists.{common_prefix, contains}
 use Rattle.ax_trees.specs.Nodes.{below, chain, depth, node_at, root_below, tree_at}
 use Rattle.ax_trees.specs.Trees.{IsDistinct, IsTree, Trees, bare, has, has_root, height, is_root, root_of, roots, tree}
 use Rattle.ax_laws.proofs.Accepted.{accept_cleared, accept_plain, accept_rooted}
-use Rattle.ax_laws.proofs.Arranged.{distinct_arranged}
+use Rattle.ax_tree.proofs.Arranged.{distinct_arranged}
 use Rattle.ax_laws.proofs.Listed.{listed_has, lists_all}
 use Rattle.ax_laws.proofs.Merged.{distinct_merged, height_merged, listed_merged, merged_inside, merged_new, merged_old, roots-merged}
 use Rattle.ax_laws.proofs.PlainFits.{reach_fits_from, roots_fit_from}

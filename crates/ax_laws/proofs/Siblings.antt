@@ -10,7 +10,8 @@ use Rattle.ax_trees.specs.Changes.{with_node}
 use Rattle.ax_trees.specs.Lists.{first_that}
 use Rattle.ax_trees.specs.Nodes.{below, root_below, root_known}
 use Rattle.ax_trees.specs.Trees.{IsDistinct, Trees, bare, has, has_root, roots, tree}
-use Rattle.ax_laws.proofs.Arranged.{arranged_from, distinct_arranged, first_repeated_none, merged_from_either, only_in}
+use Rattle.ax_tree.proofs.Arranged.{arranged_from, distinct_arranged, first_repeated_none, only_in}
+use Rattle.ax_laws.proofs.MergedDrafts.{merged_from_either}
 use Rattle.ax_laws.proofs.Listed.{listed_has, lists-append}
 use Rattle.ax_laws.proofs.Parts.{nodes_left, nodes_right, nodes_taken-append}
 use Rattle.ax_trees.proofs.Changed.{with_node_self}

@@ -30,9 +30,18 @@ abbrev pub shape_of_result : Result Tree Refusal → Result Client Refusal
 shape_of_result (Ok t) = Ok (shape t.trees)
 shape_of_result (Err e) = Err e
 
--- An update's refusal and the shape of its result depend on the tree's shape alone.
+-- the same refusal, or trees with the same root and the same parent of each id
+abbrev pub SameOutcome : Result Tree Refusal → Result Tree Refusal → Type 0
+SameOutcome (Ok t) (Ok q) = SameShape t.trees q.trees
+SameOutcome (Ok t) (Err e) = ⊥
+SameOutcome (Err e) (Ok q) = ⊥
+SameOutcome (Err e) (Err d) = e ≡ d
+
+-- An update's refusal, and root and parents of its result, depend on the tree's root and parents alone, whatever the order of children. Where that is the same too, it is so in the result.
 abbrev pub RefusalsSeeShapeAlone : Type 0
-RefusalsSeeShapeAlone = (u : TreeUpdate) (r q : Tree) → shape r.trees ≡ shape q.trees → shape_of_result (applied u r) ≡ shape_of_result (applied u q)
+RefusalsSeeShapeAlone =
+    ((u : TreeUpdate) (r q : Tree) → IsWellFormed r → IsWellFormed q → SameShape r.trees q.trees → SameOutcome (applied u r) (applied u q))
+    × ((u : TreeUpdate) (r q : Tree) → shape r.trees ≡ shape q.trees → shape_of_result (applied u r) ≡ shape_of_result (applied u q))
 
 -- what becomes of an update that r accepts
 pub record Accepted (r : Tree) (u : TreeUpdate) : Type 0 where

@@ -1,5 +1,5 @@
 //! The laws of trees, updates and packets, over the definitions of `ax_tree` alone. Each is the contract of a function
-//! with an empty body; its statement stands in `specs/Laws.antt`, `specs/TreeLaws.antt` or `specs/MarkLaws.antt`.
+//! with an empty body; its statement stands in `specs/Laws.antt`, or beside it in `TreeLaws`, `MarkLaws` or `PacketLaws`.
 #![tactic(auto)]
 
 ghost use Rattle.ax_laws.specs.TreeLaws.{EachTreeIsAFiniteMap, EachFiniteMapIsOneTree};
@@ -8,6 +8,7 @@ ghost use Rattle.ax_laws.specs.Laws.{EachUpdateKeepsStep, EachEditKeepsStep, Eac
 ghost use Rattle.ax_laws.specs.Laws.{EachBundleGivesTheSource, BrokenBundleIsCompleted};
 ghost use Rattle.ax_laws.specs.MarkLaws.{EachBundleTakesAllMarks};
 ghost use Rattle.ax_laws.specs.Laws.{EachJournalKeepsStep, PacketsOfJournalAreGood, FrontOfGoodIsGood, PassLeavesLongerListFitting, OtherEntriesLeaveListFitting};
+ghost use Rattle.ax_laws.specs.PacketLaws.{EachPacketTellsItsSource};
 
 /// Each well formed tree is a finite map of the written definition.
 pub fn each_tree_is_a_finite_map()
@@ -19,7 +20,8 @@ pub fn each_finite_map_is_one_tree()
     ensures { EachFiniteMapIsOneTree }
 {}
 
-/// An update's refusal and the shape of its result depend on the tree's shape alone.
+/// An update's refusal, and root and parents of its result, depend on the tree's root and parents alone, and the order of
+/// the result's children on that order too.
 pub fn refusals_see_shape_alone()
     ensures { RefusalsSeeShapeAlone }
 {}
@@ -102,4 +104,10 @@ pub fn pass_leaves_longer_list_fitting()
 /// Every other entry leaves a journal that the list fits.
 pub fn other_entries_leave_list_fitting()
     ensures { OtherEntriesLeaveListFitting }
+{}
+
+/// Of a list of packets that fits a journal, the joined slips of the first k tell the journal's source as it was when the
+/// k-th packet was made.
+pub fn each_packet_tells_its_source()
+    ensures { EachPacketTellsItsSource }
 {}

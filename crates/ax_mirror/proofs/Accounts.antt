@@ -15,7 +15,7 @@ use Rattle.ax_tree.specs.UpdateRule.{missing}
 use Rattle.ax_trees.proofs.Trees.{by_go}
 use Rattle.ax_mirror.specs.declared.entries.Entry.{Entry}
 use Rattle.ax_mirror.specs.declared.draft.Draft.{Draft}
-use Rattle.ax_mirror.specs.Once.{with_id}
+use Rattle.ax_tree.specs.Touching.{with_id}
 use Rattle.ax_mirror.specs.Placed.{Nodes}
 use Rattle.ax_mirror.specs.Finishes.{is_pending}
 use Rattle.ax_mirror.specs.Begins.{TouchesAll, root_is, anew_of}

@@ -19,7 +19,7 @@ use Rattle.ax_trees.proofs.Grown.{node_none}
 use Rattle.ax_tree.specs.UpdateRule.{started, cleared}
 use Rattle.ax_mirror.specs.declared.entries.Entry.{Entry}
 use Rattle.ax_mirror.specs.declared.draft.Draft.{Draft}
-use Rattle.ax_mirror.specs.Once.{with_id}
+use Rattle.ax_tree.specs.Touching.{with_id}
 use Rattle.ax_mirror.specs.Placed.{Nodes, look, place, told_node, told_place, pending_entry}
 use Rattle.ax_mirror.specs.Kept.{Keeps}
 use Rattle.ax_mirror.specs.Steps.{Tells, Tracked, Makes, Unmade, TakesOut, PutsPending}

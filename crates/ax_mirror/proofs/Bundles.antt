@@ -19,7 +19,7 @@ use Rattle.ax_tree.specs.declared.update.TreeUpdate.{TreeUpdate}
 use Rattle.ax_tree.specs.Tree.{Tree, data_of}
 use Rattle.ax_tree.specs.UpdateRule.{draft_of}
 use Rattle.ax_tree.specs.Updates.{applied, applied_from, applied_all, told}
-use Rattle.ax_laws.proofs.Drafts.{has-draft}
+use Rattle.ax_tree.proofs.Drafts.{has-draft}
 use Rattle.ax_mirror.specs.declared.draft.Draft.{Draft}
 use Rattle.ax_mirror.specs.Placed.{Nodes}
 use Rattle.ax_mirror.specs.Kept.{Holds, shown}

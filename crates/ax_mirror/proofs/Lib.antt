@@ -12,3 +12,5 @@ pub mod Updates
 pub mod Shows
 pub mod Bundles
 pub mod Accounts
+pub mod Names
+pub mod Reached

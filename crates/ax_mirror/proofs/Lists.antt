@@ -5,7 +5,7 @@ use Rattle.std.proofs.lemmas.Bool.{eqb-true}
 use Rattle.ax_trees.specs.Lists.{contains, NoneTwice}
 use Rattle.ax_trees.proofs.Lists.{once_push}
 use Rattle.ax_tree.specs.UpdateRule.{first_repeated}
-use Rattle.ax_mirror.specs.Once.{with_id}
+use Rattle.ax_tree.specs.Touching.{with_id}
 use Rattle.ax_mirror.specs.Steps.{unlisted}
 
 -- the ids before this index are in the set, and none of them twice

@@ -19,7 +19,7 @@ use Rattle.ax_trees.proofs.PlacedParents.{parent_none}
 use Rattle.ax_trees.proofs.Times.{contains-ids, length-ids, has-node}
 use Rattle.ax_tree.specs.UpdateRule.{draft_of, draft_node, completed}
 use Rattle.ax_tree.specs.Tree.{data_of}
-use Rattle.ax_laws.proofs.Drafts.{has-draft, has_root-draft, roots-draft, height-draft, completed-draft}
+use Rattle.ax_tree.proofs.Drafts.{has-draft, has_root-draft, roots-draft, height-draft, completed-draft}
 use Rattle.ax_mirror.specs.declared.entries.Entry.{Entry}
 use Rattle.ax_mirror.specs.Placed.{Nodes, look, place, told_node, told_place}
 use Rattle.ax_mirror.specs.Kept.{Holds, shown}

@@ -19,8 +19,8 @@ use Rattle.ax_trees.proofs.Lists.{first_that_ext}
 use Rattle.ax_tree.specs.UpdateRule.{only, arranged, first_repeated, bad_child, draft_node}
 use Rattle.ax_tree.specs.Tree.{as_node}
 use Rattle.ax_tree.specs.declared.update.Refusal.TheVariants.{NotInTree, DuplicateChild, Reparented}
-use Rattle.ax_laws.proofs.Arranged.{arranged_from, only_in, distinct_arranged}
-use Rattle.ax_laws.proofs.NodeSteps.{stands_step, only_below, only_root}
+use Rattle.ax_tree.proofs.Arranged.{arranged_from, only_in, distinct_arranged}
+use Rattle.ax_tree.proofs.NodeSteps.{stands_step, only_below, only_root}
 use Rattle.ax_mirror.specs.declared.entries.Entry.{Entry}
 use Rattle.ax_mirror.specs.Placed.{Nodes, look, place, told_node, told_place, pending_entry}
 use Rattle.ax_mirror.specs.Kept.{Hung, Keeps}

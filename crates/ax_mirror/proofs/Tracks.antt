@@ -4,7 +4,7 @@ use Rattle.std.specs.FinMap as fin
 use Rattle.ax_trees.specs.Lists.{contains}
 use Rattle.ax_mirror.specs.declared.entries.Entry.{Entry}
 use Rattle.ax_mirror.specs.declared.draft.Draft.{Draft}
-use Rattle.ax_mirror.specs.Once.{with_id}
+use Rattle.ax_tree.specs.Touching.{with_id}
 use Rattle.ax_mirror.specs.Steps.{Tracked, Makes, Unmade, TakesOut, Places}
 use Rattle.ax_mirror.specs.Placed.{pending_entry}
 use Rattle.ax_trees.proofs.Trees.{by_go}

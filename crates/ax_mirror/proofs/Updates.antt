@@ -10,7 +10,7 @@ use Rattle.ax_tree.specs.declared.update.Refusal.{Refusal}
 use Rattle.ax_tree.specs.declared.update.Refusal.TheVariants.{BadClear}
 use Rattle.ax_tree.specs.declared.update.TreeUpdate.{TreeUpdate}
 use Rattle.ax_tree.specs.UpdateRule.{least, least_pending, completed, finished, draft_of, started, missing}
-use Rattle.ax_laws.proofs.Drafts.{has-draft, height-draft}
+use Rattle.ax_tree.proofs.Drafts.{has-draft, height-draft}
 use Rattle.ax_mirror.specs.declared.entries.Entry.{Entry}
 use Rattle.ax_mirror.specs.declared.draft.Draft.{Draft}
 use Rattle.ax_mirror.specs.Placed.{Nodes, place, told_node, told_place}

@@ -1,10 +1,10 @@
 -- Which ids updates may touch.
-use Rattle.std.specs.Prelude.{ℕ, ◌≡◌, ◌⊎◌, Bool, true, false, ◌||◌, ◌==◌, List, [], ◌∷◌, Option, is_some}
+use Rattle.std.specs.Prelude.{ℕ, ◌≡◌, ◌≤◌, ◌+◌, length, ◌⊎◌, Bool, true, false, ◌||◌, ◌==◌, List, [], ◌∷◌, Option, is_some}
 use Rattle.std.specs.FinMap as fin
 use Rattle.ax_node.specs.declared.node.NodeData.{NodeData}
 use Rattle.ax_node.specs.Look.{Look}
 use Rattle.ax_trees.specs.Trees.{Trees, has}
-use Rattle.ax_trees.specs.Lists.{contains}
+use Rattle.ax_trees.specs.Lists.{contains, NoneTwice}
 use Rattle.ax_tree.specs.Tree.{Tree}
 use Rattle.ax_tree.specs.declared.update.TreeUpdate.{TreeUpdate}
 use Rattle.ax_mirror.specs.declared.draft.Draft.{Draft}
@@ -71,3 +71,20 @@ names u z = start_names u.root u.clear z || list_names u.nodes z
 pub record TouchesOnly (us : List TreeUpdate) (d e : Draft) : Type 0 where
   pub only : (f g : Trees Look) → Holds d.nodes d.root f → Holds e.nodes e.root g → (z : ℕ) → contains e.touched z ≡ true → (contains d.touched z ≡ true) ⊎ MayBeTouched us f g z
   pub come : (f g : Trees Look) → Holds d.nodes d.root f → Holds e.nodes e.root g → (z : ℕ) → has g z ≡ true → (has f z ≡ true) ⊎ (is_listed us z ≡ true)
+
+-- What a call did that stopped from d to e: it touched only what d had touched, ids of d and named ids, and its steps, which rose from n to m, are no more than the ids that it touched.
+pub record Reaches (named : ℕ → Bool) (d e : Draft) (n m : ℕ) : Type 0 where
+  pub from : (z : ℕ) → contains e.touched z ≡ true → (contains d.touched z || (is_some (fin.get d.nodes z) || named z)) ≡ true
+  pub cost : m + length d.touched ≤ n + length e.touched
+
+-- an update names it
+abbrev pub all_names : List TreeUpdate → ℕ → Bool
+all_names [] z = false
+all_names (u ∷ us) z = names u z || all_names us z
+
+-- Steps rose from n to m by no more than there are ids in a list without repeats, each of which is in the tree or named by an update.
+pub record StepsFor (us : List TreeUpdate) (old : Tree) (n m : ℕ) : Type 0 where
+  pub ids : List ℕ
+  pub once : NoneTwice ids
+  pub meant : (z : ℕ) → contains ids z ≡ true → (has old.trees z || all_names us z) ≡ true
+  pub cost : m ≤ n + length ids

@@ -1,4 +1,3 @@
-pub mod Once
 pub mod Placed
 pub mod Kept
 pub mod Steps

@@ -1,3 +1,5 @@
+//! Tree data that several mirrors share.
+
 ghost use Rattle.std.specs.Prelude.{◌≡◌, OnOk, IfOk};
 ghost use Rattle.ax_tree.specs.Tree.{blank_data};
 ghost use Rattle.ax_tree.specs.Updates.{told};

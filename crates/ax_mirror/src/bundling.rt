@@ -1,19 +1,21 @@
-ghost use Rattle.std.specs.Prelude.{◌≡◌, ◌≤◌, ◌+◌, [], ◌∷◌, length, OnOk, IfOk, IfErr, None};
+//! Updates one after the other, upon a draft.
+
+ghost use Rattle.std.specs.Prelude.{◌≡◌, ◌≤◌, ◌+◌, [], ◌∷◌, length, take, OnOk, OnErr, IfOk, IfErr, None};
 ghost use Rattle.std.specs.FinMap as map;
+ghost use Rattle.ax_trees.specs.Lists.{NoneTwice};
 ghost use Rattle.ax_tree.specs.Updates.{applied, applied_all};
 ghost use Rattle.ax_mirror.specs.Begins.{Forgets};
 ghost use Rattle.ax_mirror.specs.Mirrors.{Applies, IsRefused, IsBroken, TrackedHeld};
-ghost use Rattle.ax_mirror.specs.Accounts.{TouchesOnly};
+ghost use Rattle.ax_mirror.specs.Accounts.{Accounts, Reaches, TouchesOnly, all_names, lists_id, names};
 
 use crate::about::About;
 use crate::draft::Draft;
 use crate::entries::Entries;
 use crate::starting::touch_all;
-use crate::touching::Touched;
 use crate::updating::take_update;
 use ax_base::{Ids, NoMemory, NodeId};
 use ax_pages::Steps;
-use ax_tree::{BundleErr, Refusal, TreeUpdate};
+use ax_tree::{BundleErr, Refusal, Touched, TreeUpdate};
 use std::sync::ledger::Ledger;
 
 /// A draft that shares the nodes.
@@ -56,6 +58,8 @@ pub fn take_one<L: Ledger>(
     ensures tracked { OnOk result (TrackedHeld draft.old draft.new) }
     ensures cost { OnOk result (steps.new + length draft.old.touched ≤ steps.old + length draft.new.touched) }
     ensures only { OnOk result (TouchesOnly (update.now ∷ []) draft.old draft.new) }
+    ensures accounts { OnOk result (Accounts (names update.now) (lists_id update.now.nodes) draft.old draft.new) }
+    ensures reach { OnErr result (Reaches (names update.now) draft.old draft.new steps.old steps.new) }
 {
     match take_update(draft, update, steps) {
         Ok(()) => {}
@@ -80,11 +84,17 @@ pub fn take_all<L: Ledger>(
     ensures tracked { OnOk result (TrackedHeld draft.old draft.new) }
     ensures cost { OnOk result (steps.new + length draft.old.touched ≤ steps.old + length draft.new.touched) }
     ensures only { OnOk result (TouchesOnly updates.now draft.old draft.new) }
+    ensures reach { IfErr result (λ r. Reaches (all_names (take (r.at + 1) updates.now)) draft.old draft.new steps.old steps.new) }
+    ensures once { OnErr result (NoneTwice draft.new.touched) }
 {
     for (at, update) in updates.iter().enumerate() {
         match take_one(draft, about, update, steps) {
             Ok(()) => {}
-            Err(why) => return Err(BundleErr { at, why }),
+            Err(why) => {
+                // Its contract says that no id is counted twice.
+                let _touched = draft.touched.as_slice();
+                return Err(BundleErr { at, why });
+            }
         }
     }
     Ok(())

@@ -1,3 +1,5 @@
+//! Lists of children as sets, and what of one list another has.
+
 ghost use Rattle.std.specs.Prelude.{◌≡◌, ℕ, [], IfOk, nat_eq};
 ghost use Rattle.std.specs.HashSet as bag;
 ghost use Rattle.ax_trees.specs.Lists.{contains};

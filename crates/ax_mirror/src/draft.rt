@@ -1,6 +1,8 @@
+//! A tree while updates are applied to it.
+
 use crate::entries::Entries;
-use crate::touching::Touched;
 use ax_base::{Ids, NodeId};
+use ax_tree::Touched;
 
 /// A tree while updates are applied to it.
 #[derive(Drop)]

@@ -1,11 +1,14 @@
-ghost use Rattle.std.specs.Prelude.{◌≡◌, ◌≤◌, ◌+◌, length, OnOk, if◌then◌else◌};
-ghost use Rattle.std.specs.FinMap as map;
-ghost use Rattle.ax_mirror.specs.Once.{with_id};
+//! What stands at an id, and the writes that count their steps.
 
-use crate::touching::Touched;
+ghost use Rattle.std.specs.Prelude.{ℕ, ◌≡◌, ◌≤◌, ◌+◌, ◌==◌, ◌||◌, true, length, OnOk, if◌then◌else◌};
+ghost use Rattle.std.specs.FinMap as map;
+ghost use Rattle.ax_trees.specs.Lists.{contains};
+ghost use Rattle.ax_tree.specs.Touching.{with_id};
+
 use ax_base::{NoMemory, NodeId};
 use ax_node::NodeData;
 use ax_pages::{Paged, Steps};
+use ax_tree::Touched;
 use std::sync::ledger::Ledger;
 
 /// What stands at an id. A pending node was named, and its data haven't come.
@@ -31,7 +34,8 @@ pub fn put<L: Ledger>(
 ) -> Result<(), NoMemory>
     ensures ok { OnOk result (nodes.new ≡ map.insert nodes.old id entry) }
     ensures touched { OnOk result (touched.new ≡ with_id touched.old id) }
-    ensures cost { OnOk result (steps.new + length touched.old ≤ steps.old + length touched.new) }
+    ensures at_most { (z : ℕ) → contains touched.new z ≡ true → (contains touched.old z || id == z) ≡ true }
+    ensures cost { steps.new + length touched.old ≤ steps.old + length touched.new }
 {
     let new = touched.add(id)?;
     write_page(nodes, id, entry, new, steps)?;
@@ -47,7 +51,8 @@ pub fn take<L: Ledger>(
 ) -> Result<(), NoMemory>
     ensures ok { OnOk result (nodes.new ≡ map.remove nodes.old id) }
     ensures touched { OnOk result (touched.new ≡ with_id touched.old id) }
-    ensures cost { OnOk result (steps.new + length touched.old ≤ steps.old + length touched.new) }
+    ensures at_most { (z : ℕ) → contains touched.new z ≡ true → (contains touched.old z || id == z) ≡ true }
+    ensures cost { steps.new + length touched.old ≤ steps.old + length touched.new }
 {
     let new = touched.add(id)?;
     erase_page(nodes, id, new, steps)?;

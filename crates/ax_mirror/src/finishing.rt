@@ -1,3 +1,5 @@
+//! Whether a draft is a tree: nothing is pending, and no chain is too long.
+
 ghost use Rattle.std.specs.Prelude.{◌≡◌, OnOk, IfErr, Some, if◌then◌else◌};
 ghost use Rattle.std.specs.FinMap as fin;
 ghost use Rattle.ax_tree.specs.UpdateRule.{least};

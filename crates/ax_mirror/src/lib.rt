@@ -12,10 +12,6 @@ mod placing;
 mod removing;
 mod starting;
 mod stepping;
-#[cfg(test)]
-mod tests;
-mod touching;
 mod updating;
 
 pub use mirrored::Mirror;
-pub use touching::Touched;

@@ -1,17 +1,19 @@
-ghost use Rattle.std.specs.Prelude.{[], ◌∷◌, ◌≡◌, ◌≤◌, ◌<◌, ◌+◌, length, OnOk, OnErr, IfOk, IfErr, Ok};
-ghost use Rattle.ax_tree.specs.Tree.{empty};
+//! The mirror: a tree that updates and bundles change, or leave as it was.
+
+ghost use Rattle.std.specs.Prelude.{[], ◌∷◌, ◌≡◌, ◌≤◌, ◌<◌, ◌+◌, length, take, OnOk, OnErr, IfOk, IfErr, Ok};
+ghost use Rattle.ax_trees.specs.Trees.{height, root_of};
+ghost use Rattle.ax_tree.specs.Tree.{empty, IsWellFormed};
 ghost use Rattle.ax_tree.specs.Updates.{applied, applied_all};
 ghost use Rattle.ax_mirror.specs.Mirrors.{NamesChanges, RefusedAs, BrokenAs, IsForMemory, base_of};
-ghost use Rattle.ax_mirror.specs.Accounts.{NamesOnly};
+ghost use Rattle.ax_mirror.specs.Accounts.{NamesOnly, StepsFor};
 
 use crate::about::About;
 use crate::bundling::{begin, begin_anew, take_all, take_one};
 use crate::entries::Entries;
-use crate::touching::Touched;
 use ax_base::{NoMemory, NodeId, TreeId};
 use ax_node::{NodeData, TreeData};
 use ax_pages::Steps;
-use ax_tree::{Bundle, BundleErr, Refusal, TreeUpdate, TreeView};
+use ax_tree::{Bundle, BundleErr, Refusal, Touched, TreeUpdate, TreeView};
 use std::alloc::Global;
 use std::marker::{Brand, Model};
 use std::sync::ledger::{Blank, Ledger};
@@ -63,19 +65,18 @@ impl Mirror {
         })
     }
 
-    /// Applies an update by the update rule of docs/FORMATS.md, or refuses it and stays as it was. The answer names each id
-    /// whose node is changed. Linear in the update, in what it removes, and in the child lists of the nodes that it lists.
+    /// Applies an update by the update rule of docs/FORMATS.md, or refuses it and stays as it was. The tree keeps its id. The
+    /// answer names each id whose node is changed. Linear in the update, in what it removes, and in the child lists of the
+    /// nodes that it lists.
     pub fn unserialize(&mut self, update: &TreeUpdate) -> Result<Touched, Refusal>
         ensures ok { OnOk result (applied update.now self.old ≡ Ok self.new) }
         ensures err { IfErr result (λ r. RefusedAs r (applied update.now self.old)) }
         ensures unchanged { OnErr result (self.new ≡ self.old) }
+        ensures same_tree { self.new.about.tree ≡ self.old.about.tree }
         ensures named { IfOk result (λ t. NamesChanges self.old self.new t) }
         ensures only { IfOk result (λ t. NamesOnly (update.now ∷ []) self.old self.new t) }
     {
-        match self.unserialize_counted::<Brand>(update, Blank::new(1)) {
-            Ok(touched) => Ok(touched),
-            Err(refusal) => Err(refusal),
-        }
+        self.unserialize_counted::<Brand>(update, Blank::new(1))
     }
 
     fn unserialize_counted<L: Ledger>(
@@ -108,8 +109,9 @@ impl Mirror {
     }
 
     /// Applies the updates one after the other, upon the empty tree where `fresh` is true, or refuses them and stays as it
-    /// was. A refusal names the first refused update. It takes a step for each page of nodes that is copied: no more than
-    /// there are touched ids.
+    /// was. The tree keeps its id. A refusal names the first refused update. It takes a step for each page of nodes that is
+    /// copied: no more than there are touched ids. A refused call takes no more than there are ids that were in the tree or
+    /// that an update up to the refused one names.
     pub fn apply<L: Ledger>(
         &mut self,
         bundle: &Bundle,
@@ -120,9 +122,11 @@ impl Mirror {
         ensures err { IfErr result (λ r. BrokenAs r (applied_all bundle.now (base_of fresh self.old))) }
         ensures at { IfErr result (λ r. r.at ≤ length bundle.now) }
         ensures unchanged { OnErr result (self.new ≡ self.old) }
+        ensures same_tree { self.new.about.tree ≡ self.old.about.tree }
         ensures named { IfOk result (λ t. NamesChanges self.old self.new t) }
         ensures cost { IfOk result (λ t. steps.new ≤ steps.old + length t) }
         ensures only { IfOk result (λ t. NamesOnly bundle.now self.old self.new t) }
+        ensures spent { IfErr result (λ r. StepsFor (take (r.at + 1) bundle.now) self.old steps.old steps.new) }
     {
         if fresh {
             return self.apply_anew(bundle, steps);
@@ -142,6 +146,7 @@ impl Mirror {
         ensures named { IfOk result (λ t. NamesChanges self.old self.new t) }
         ensures cost { IfOk result (λ t. steps.new ≤ steps.old + length t) }
         ensures only { IfOk result (λ t. NamesOnly bundle.now self.old self.new t) }
+        ensures spent { IfErr result (λ r. StepsFor (take (r.at + 1) bundle.now) self.old steps.old steps.new) }
     {
         let Ok(mut draft) = begin(&self.nodes, self.root) else {
             return Err(no_memory());
@@ -171,6 +176,7 @@ impl Mirror {
         ensures named { IfOk result (λ t. NamesChanges self.old self.new t) }
         ensures cost { IfOk result (λ t. steps.new ≤ steps.old + length t) }
         ensures only { IfOk result (λ t. NamesOnly bundle.now self.old self.new t) }
+        ensures spent { IfErr result (λ r. StepsFor (take (r.at + 1) bundle.now) self.old steps.old steps.new) }
     {
         let Ok(mut draft) = begin_anew(&self.nodes, self.root) else {
             return Err(no_memory());
@@ -200,7 +206,12 @@ fn no_memory() -> BundleErr
 impl TreeView for Mirror {
     ghost tree = { λ t. t };
 
-    fn root(&self) -> Option<NodeId> {
+    /// The root's id. No chain has more than 256 nodes.
+    fn root(&self) -> Option<NodeId>
+        ensures root { result ≡ root_of self.now.trees }
+        ensures well_formed { IsWellFormed self.now }
+        ensures low { height self.now.trees ≤ 256 }
+    {
         self.root
     }
 

@@ -1,9 +1,11 @@
-ghost use Rattle.std.specs.Prelude.{◌≡◌, ◌≤◌, ◌+◌, [], length, OnOk, IfOk, nat_eq, None};
+//! Nodes that become pending.
+
+ghost use Rattle.std.specs.Prelude.{◌≡◌, ◌≤◌, ◌+◌, [], length, OnOk, OnErr, IfOk, nat_eq, None};
 ghost use Rattle.std.specs.HashSet as bag;
 ghost use Rattle.ax_trees.specs.Lists.{contains, first_that};
 ghost use Rattle.ax_tree.specs.UpdateRule.{first_repeated};
 ghost use Rattle.ax_mirror.specs.Steps.{PutsPending, Places, Tracked, is_elsewhere};
-ghost use Rattle.ax_mirror.specs.Accounts.{Accounts, no_id, is_id};
+ghost use Rattle.ax_mirror.specs.Accounts.{Accounts, Reaches, no_id, is_id};
 
 use crate::draft::Draft;
 use crate::entries::{Entry, put};
@@ -25,6 +27,7 @@ pub fn put_pending<L: Ledger>(
     ensures tracked { OnOk result (Tracked draft.old draft.new) }
     ensures cost { OnOk result (steps.new + length draft.old.touched ≤ steps.old + length draft.new.touched) }
     ensures accounts { OnOk result (Accounts (is_id id) no_id draft.old draft.new) }
+    ensures reach { OnErr result (Reaches (is_id id) draft.old draft.new steps.old steps.new) }
 {
     draft.made.push(id)?;
     let entry = Entry {
@@ -52,6 +55,7 @@ pub fn place<L: Ledger>(
     ensures tracked { OnOk result (Tracked draft.old draft.new) }
     ensures cost { OnOk result (steps.new + length draft.old.touched ≤ steps.old + length draft.new.touched) }
     ensures accounts { OnOk result (Accounts (contains ids.now) no_id draft.old draft.new) }
+    ensures reach { OnErr result (Reaches (contains ids.now) draft.old draft.new steps.old steps.new) }
 {
     for id in ids.as_slice() {
         if old.contains(id) {

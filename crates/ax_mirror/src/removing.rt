@@ -1,6 +1,8 @@
-ghost use Rattle.std.specs.Prelude.{◌≤◌, ◌+◌, length, OnOk};
+//! Nodes that go with all below them.
+
+ghost use Rattle.std.specs.Prelude.{◌≤◌, ◌+◌, length, OnOk, OnErr};
 ghost use Rattle.ax_mirror.specs.Steps.{TakesOut, Tracked};
-ghost use Rattle.ax_mirror.specs.Accounts.{Accounts, no_id};
+ghost use Rattle.ax_mirror.specs.Accounts.{Accounts, Reaches, no_id};
 
 use crate::draft::Draft;
 use crate::entries::take;
@@ -18,6 +20,7 @@ pub fn take_out<L: Ledger>(
     ensures tracked { OnOk result (Tracked draft.old draft.new) }
     ensures cost { OnOk result (steps.new + length draft.old.touched ≤ steps.old + length draft.new.touched) }
     ensures accounts { OnOk result (Accounts no_id no_id draft.old draft.new) }
+    ensures reach { OnErr result (Reaches no_id draft.old draft.new steps.old steps.new) }
 {
     while let Some(id) = stack.pop() {
         // Each id on the stack has an entry.

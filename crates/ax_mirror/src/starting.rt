@@ -1,9 +1,11 @@
-ghost use Rattle.std.specs.Prelude.{◌≡◌, ◌≤◌, ◌+◌, length, OnOk, Some, None};
+//! What the root and the clear id of an update take out.
+
+ghost use Rattle.std.specs.Prelude.{◌≡◌, ◌≤◌, ◌+◌, length, OnOk, OnErr, Some, None};
 ghost use Rattle.ax_trees.specs.Trees.{bare, tree};
 ghost use Rattle.ax_tree.specs.UpdateRule.{cleared, started};
 ghost use Rattle.ax_mirror.specs.Steps.{Makes, Tracked};
 ghost use Rattle.ax_mirror.specs.Begins.{Turns, TrackedTrees, TouchesAll, root_is, anew_of};
-ghost use Rattle.ax_mirror.specs.Accounts.{Accounts, no_id, is_id, start_names};
+ghost use Rattle.ax_mirror.specs.Accounts.{Accounts, Reaches, no_id, is_id, start_names};
 
 use crate::draft::Draft;
 use crate::entries::Entries;
@@ -24,6 +26,7 @@ pub fn clear_below<L: Ledger>(
     ensures tracked { OnOk result (Tracked draft.old draft.new) }
     ensures cost { OnOk result (steps.new + length draft.old.touched ≤ steps.old + length draft.new.touched) }
     ensures accounts { OnOk result (Accounts (is_id id) no_id draft.old draft.new) }
+    ensures reach { OnErr result (Reaches (is_id id) draft.old draft.new steps.old steps.new) }
 {
     let Some(entry) = draft.nodes.read(id) else {
         return Ok(());
@@ -39,7 +42,8 @@ pub fn clear_below<L: Ledger>(
 
 /// Adds all ids of the tree to the touched ones.
 pub fn touch_all(draft: &mut Draft) -> Result<(), NoMemory>
-    ensures { OnOk result (TouchesAll draft.old draft.new) }
+    ensures all { OnOk result (TouchesAll draft.old draft.new) }
+    ensures reach { OnErr result (Reaches no_id draft.old draft.new 0 0) }
 {
     let Some(root) = draft.root else {
         return Ok(());
@@ -71,6 +75,7 @@ pub fn root_anew<L: Ledger>(
     ensures tracked { OnOk result (TrackedTrees draft.old draft.new) }
     ensures cost { OnOk result (steps.new + length draft.old.touched ≤ steps.old + length draft.new.touched) }
     ensures accounts { OnOk result (Accounts (is_id root) no_id draft.old draft.new) }
+    ensures reach { OnErr result (Reaches (is_id root) draft.old draft.new steps.old steps.new) }
 {
     touch_all(draft)?;
     draft.nodes = Entries::new(draft.nodes.allocator());
@@ -91,6 +96,7 @@ pub fn start<L: Ledger>(
     ensures tracked { OnOk result (TrackedTrees draft.old draft.new) }
     ensures cost { OnOk result (steps.new + length draft.old.touched ≤ steps.old + length draft.new.touched) }
     ensures accounts { OnOk result (Accounts (start_names root clear) no_id draft.old draft.new) }
+    ensures reach { OnErr result (Reaches (start_names root clear) draft.old draft.new steps.old steps.new) }
 {
     match anew(draft.root, root) {
         Some(root) => {

@@ -1,8 +1,10 @@
-ghost use Rattle.std.specs.Prelude.{◌≡◌, ◌≤◌, ◌+◌, ◌⊎◌, length, OnOk, IfOk, IfErr};
+//! The data of nodes, one node after the other.
+
+ghost use Rattle.std.specs.Prelude.{◌≡◌, ◌≤◌, ◌+◌, ◌⊎◌, length, OnOk, OnErr, IfOk, IfErr};
 ghost use Rattle.ax_tree.specs.declared.update.Refusal.TheVariants.{NoMemory};
 ghost use Rattle.ax_mirror.specs.Steps.{taken, all_taken, Accepts, Refuses, Makes, Tracked};
 ghost use Rattle.ax_mirror.specs.Changes.{IsChange, RepeatsChild};
-ghost use Rattle.ax_mirror.specs.Accounts.{Accounts, is_id, node_names, list_names, lists_id};
+ghost use Rattle.ax_mirror.specs.Accounts.{Accounts, Reaches, is_id, node_names, list_names, lists_id};
 
 use crate::children::{first_repeated, outside, set_of};
 use crate::draft::Draft;
@@ -77,6 +79,7 @@ pub fn take_node<L: Ledger>(
     ensures tracked { OnOk result (Tracked draft.old draft.new) }
     ensures cost { OnOk result (steps.new + length draft.old.touched ≤ steps.old + length draft.new.touched) }
     ensures accounts { OnOk result (Accounts (node_names node.now) (is_id node.now.id) draft.old draft.new) }
+    ensures reach { OnErr result (Reaches (node_names node.now) draft.old draft.new steps.old steps.new) }
 {
     let Some(entry) = draft.nodes.read(node.id) else {
         return Err(Refusal::NotInTree(node.id));
@@ -128,6 +131,7 @@ pub fn take_nodes<L: Ledger>(
     ensures tracked { OnOk result (Tracked draft.old draft.new) }
     ensures cost { OnOk result (steps.new + length draft.old.touched ≤ steps.old + length draft.new.touched) }
     ensures accounts { OnOk result (Accounts (list_names nodes.now) (lists_id nodes.now) draft.old draft.new) }
+    ensures reach { OnErr result (Reaches (list_names nodes.now) draft.old draft.new steps.old steps.new) }
 {
     for node in nodes {
         match take_node(draft, node, steps) {

@@ -1,7 +1,9 @@
-ghost use Rattle.std.specs.Prelude.{◌≡◌, ◌≤◌, ◌+◌, length, OnOk, IfErr};
+//! One update, from its clear id to the test of the whole tree.
+
+ghost use Rattle.std.specs.Prelude.{◌≡◌, ◌≤◌, ◌+◌, length, OnOk, OnErr, IfErr};
 ghost use Rattle.ax_mirror.specs.Steps.{Updates, UpdateRefused};
 ghost use Rattle.ax_mirror.specs.Begins.{TrackedTrees, missing_in};
-ghost use Rattle.ax_mirror.specs.Accounts.{Accounts, names, lists_id};
+ghost use Rattle.ax_mirror.specs.Accounts.{Accounts, Reaches, names, lists_id};
 
 use crate::draft::Draft;
 use crate::entries::Entries;
@@ -24,6 +26,7 @@ pub fn take_update<L: Ledger>(
     ensures tracked { OnOk result (TrackedTrees draft.old draft.new) }
     ensures cost { OnOk result (steps.new + length draft.old.touched ≤ steps.old + length draft.new.touched) }
     ensures accounts { OnOk result (Accounts (names update.now) (lists_id update.now.nodes) draft.old draft.new) }
+    ensures reach { OnErr result (Reaches (names update.now) draft.old draft.new steps.old steps.new) }
 {
     draft.made.clear();
     match missing(&draft.nodes, update.clear) {

@@ -1,3 +1,4 @@
+//! Attributes of a node.
 ghost use Rattle.std.specs.Prelude.{◌≡◌, ◌≢◌, ◌<◌, ◌≤◌, ◌⊎◌, ◌↔◌, [], Some, length, take, nat_lt, slice_get, IfOk, IfErr, IfSome, OnOk, OnErr, IsTrue, is_some};
 ghost use Rattle.std.specs.List.{prefix_len};
 ghost use Rattle.std.specs.Option.{option_copied};
@@ -20,6 +21,17 @@ use std::marker::Model;
 pub enum AttrErr {
     BadAttr(Key),
     NoMemory,
+}
+
+impl From<NoMemory> for AttrErr {
+    ghost use Rattle.std.specs.Prelude.{◌≡◌};
+    ghost use Rattle.ax_node.specs.declared.attrs.AttrErr.TheVariants.{NoMemory as OutOfMemory};
+
+    ghost from_gives = { λ _ e. e ≡ OutOfMemory };
+
+    fn from(_error: NoMemory) -> AttrErr {
+        AttrErr::NoMemory
+    }
 }
 
 /// Attributes: a finite map from keys to values of their kinds, seen as the list of its entries in the order of the
@@ -46,6 +58,7 @@ impl Model for AttrList {
 }
 
 impl AttrList {
+    /// The empty map, which takes no memory.
     pub fn new(alloc: Global) -> AttrList
         ensures { result ≡ [] }
     {
@@ -74,6 +87,7 @@ impl AttrList {
         self.entries.as_slice()
     }
 
+    /// The value of the key, or `None` where it has none.
     pub fn get(&self, key: Key) -> Option<&Value>
         ensures value { option_copied result ≡ find nat_cmp key self.now }
         ensures kind { IfSome (option_copied result) (IsOfKind key) }
@@ -82,6 +96,7 @@ impl AttrList {
         value_at(self.entries.as_slice(), place, key)
     }
 
+    /// Gives the key the value. `BadAttr` comes where it isn't of the key's kind; after a refusal nothing has changed.
     pub fn set(&mut self, key: Key, value: Value) -> Result<(), AttrErr>
         ensures ok { OnOk result (self.new ≡ put nat_cmp key value self.old) }
         ensures bad { (result ≡ Err (AttrErr.BadAttr key)) ↔ (kind_of key_rows key ≢ Some (value_kind value)) }
@@ -103,7 +118,7 @@ impl AttrList {
         Ok(())
     }
 
-    /// Whether the key was there.
+    /// Takes the key out, and tells whether it was there. It takes no memory.
     pub fn unset(&mut self, key: Key) -> bool
         ensures answer { result ≡ is_some (find nat_cmp key self.old) }
         ensures rest { self.new ≡ without key self.old }
@@ -116,12 +131,14 @@ impl AttrList {
         true
     }
 
+    /// Whether both are the same map. Linear in them and their texts.
     pub fn same(&self, other: &AttrList) -> bool
         ensures { IsTrue result ↔ (self.now ≡ other.now) }
     {
         same_entries(self.entries.as_slice(), other.entries.as_slice())
     }
 
+    /// One block for the entries, whatever their texts: copies of a text share its bytes.
     pub fn copy(&self) -> Result<AttrList, NoMemory>
         ensures { IfOk result (λ a. a ≡ self.now) }
     {
@@ -181,16 +198,10 @@ fn same_entries(a: &[(Key, Value)], b: &[(Key, Value)]) -> bool
 fn copy_entries(alloc: Global, entries: &[(Key, Value)]) -> Result<Vec<(Key, Value)>, NoMemory>
     ensures { IfOk result (λ copy. copy.items ≡ entries.now) }
 {
-    let mut copy = match Vec::with_capacity(alloc, entries.len()) {
-        Ok(copy) => copy,
-        Err(_) => return Err(NoMemory),
-    };
+    let mut copy = Vec::with_capacity(alloc, entries.len())?;
     for entry in entries {
         let value = entry.1.copy()?;
-        match copy.push((entry.0, value)) {
-            Ok(()) => {}
-            Err(_) => return Err(NoMemory),
-        }
+        copy.push((entry.0, value))?;
     }
     Ok(copy)
 }

@@ -9,8 +9,6 @@
 mod attrs;
 mod node;
 mod states;
-#[cfg(test)]
-mod tests;
 mod tree_data;
 mod value;
 

@@ -1,3 +1,4 @@
+//! Nodes.
 ghost use Rattle.std.specs.Prelude.{◌≡◌, ◌↔◌, [], IfOk, IsTrue};
 ghost use Rattle.ax_node.specs.Look.{look_of, node_of, blank_look};
 
@@ -32,6 +33,7 @@ impl NodeData {
         }
     }
 
+    /// At most three blocks, for states, attributes and children; its texts are shared.
     pub fn copy(&self) -> Result<NodeData, NoMemory>
         ensures { IfOk result (λ n. n ≡ self.now) }
     {

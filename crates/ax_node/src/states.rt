@@ -1,3 +1,4 @@
+//! Sets of states.
 ghost use Rattle.std.specs.Prelude.{◌≡◌, ◌<◌, ◌≤◌, ℕ, [], length, slice_index, true, IfOk, OnOk, OnErr, IsTrue, ◌↔◌};
 ghost use Rattle.ax_node.specs.States.{has_state, with_state, are_ascending};
 
@@ -59,6 +60,7 @@ impl StateSet {
         self.states.as_slice()
     }
 
+    /// Puts the state in, if it isn't there.
     pub fn add(&mut self, s: State) -> Result<(), NoMemory>
         ensures ok { OnOk result (self.new ≡ with_state self.old s) }
         ensures err { OnErr result (self.new ≡ self.old) }
@@ -83,10 +85,8 @@ impl StateSet {
     pub fn copy(&self) -> Result<StateSet, NoMemory>
         ensures { IfOk result (λ s. s ≡ self.now) }
     {
-        match Vec::from_slice(*self.states.allocator(), self.states.as_slice()) {
-            Ok(states) => Ok(StateSet { states }),
-            Err(_) => Err(NoMemory),
-        }
+        let states = Vec::from_slice(*self.states.allocator(), self.states.as_slice())?;
+        Ok(StateSet { states })
     }
 }
 

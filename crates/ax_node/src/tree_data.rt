@@ -1,3 +1,4 @@
+//! What is known of a whole tree.
 ghost use Rattle.std.specs.Prelude.{◌≡◌, [], None, false, IfOk};
 
 use ax_base::{NoMemory, NodeId, Text, TreeId};
@@ -36,6 +37,7 @@ impl TreeData {
         }
     }
 
+    /// It takes no memory: the texts are shared.
     pub fn copy(&self) -> Result<TreeData, NoMemory>
         ensures { IfOk result (λ d. d ≡ self.now) }
     {

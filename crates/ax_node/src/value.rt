@@ -1,3 +1,4 @@
+//! Values of attributes.
 ghost use Rattle.std.specs.Prelude.{◌≡◌, ◌↔◌, IfOk, IsTrue};
 ghost use Rattle.ax_node.specs.Kinds.{value_kind};
 
@@ -41,6 +42,7 @@ impl Value {
         }
     }
 
+    /// It takes no memory: a text is shared.
     pub fn copy(&self) -> Result<Value, NoMemory>
         ensures { IfOk result (λ v. v ≡ self.now) }
     {

@@ -12,8 +12,6 @@ mod page;
 mod paged;
 mod steps;
 mod table;
-#[cfg(test)]
-mod tests;
 
 use ax_node::NodeData;
 pub use paged::Paged;

@@ -1,9 +1,9 @@
 -- What an edit tells, and the marks that are left.
 use Rattle.std.proofs.Common.{ℕ, ◌≡◌, ◌<◌, ◌≤◌, Bool, false, not, List, [], ◌∷◌, length, slice_get, refl, sym, ◌∙◌, arith, None, Some}
 use Rattle.std.specs.Prelude.{filter, nat_eq}
-use Rattle.ax_client.specs.MarkList.{without}
+use Rattle.ax_marks.specs.MarkList.{without}
 use Rattle.ax_trees.specs.Trees.{has}
-use Rattle.ax_store.proofs.Walking.{tree_at_none}
+use Rattle.ax_views.proofs.Walking.{tree_at_none}
 use Rattle.ax_tree.specs.declared.edit.Edit.{Edit}
 use Rattle.ax_tree.specs.declared.edit.EditErr.{EditErr}
 use Rattle.ax_tree.specs.Edits.{refusal}

@@ -11,8 +11,8 @@ use Rattle.ax_ask.specs.declared.line.Line.{Line}
 use Rattle.ax_ask.specs.declared.line.Line.TheVariants as lines
 use Rattle.ax_ask.specs.declared.line.MadeNote.{MadeNote}
 use Rattle.ax_ask.specs.declared.line.PassNote.TheVariants as passes
-use Rattle.ax_rules.specs.LineText.{line_text, lines_text}
-use Rattle.ax_rules.specs.Dump.{dump_text}
+use Rattle.ax_run_rules.specs.LineText.{line_text, lines_text}
+use Rattle.ax_run_rules.specs.Dump.{dump_text}
 use Rattle.ax_replay.specs.declared.sender.Sender.{Sender}
 use Rattle.ax_replay.specs.Only.{one_tree}
 use Rattle.ax_replay.specs.Replay.{replay_text, op_lines, after_ops, whole_note, receipt_line, receipt_lines, probe_lines, refresh_lines, end_lines, last_mirror}

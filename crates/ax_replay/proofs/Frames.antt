@@ -17,7 +17,7 @@ use Rattle.ax_ask.specs.declared.op.FrameOp.TheVariants as ops
 use Rattle.ax_ask.specs.declared.line.Line.{Line}
 use Rattle.ax_ask.specs.declared.line.MadeNote.{MadeNote}
 use Rattle.ax_ask.specs.declared.line.PassNote.TheVariants as passes
-use Rattle.ax_rules.specs.FrameSteps.{entry_of, update_note}
+use Rattle.ax_run_rules.specs.FrameSteps.{entry_of, update_note}
 use Rattle.ax_source.specs.Source.{Source}
 use Rattle.ax_laws.proofs.FrameSteps.{Kept, kept_entry, kept_new}
 use Rattle.ax_replay.specs.declared.sender.Sender.{Sender}

@@ -1,12 +1,14 @@
 -- A forest of one tree: it hangs nowhere, and nothing hangs in it.
-use Rattle.std.proofs.Common.{ℕ, ◌≡◌, Bool, true, false, ◌||◌, eqb, List, [], ◌∷◌, ◌++◌, refl, arith, None, Some, Result, Ok, Err, OnOk, if◌then◌else◌, option_and_then}
+use Rattle.std.proofs.Common.{ℕ, ◌≡◌, ◌≤◌, Bool, true, false, ◌||◌, eqb, List, [], ◌∷◌, ◌++◌, refl, subst, arith, Option, None, Some, Result, Ok, Err, OnOk, if◌then◌else◌, option_and_then}
 use Rattle.ax_base.specs.declared.position.Place.{Place}
 use Rattle.ax_base.specs.declared.seq.NoMemory.{NoMemory}
-use Rattle.ax_trees.specs.Trees.{is_bare}
+use Rattle.std.proofs.lemmas.Bool.{eqb-true}
+use Rattle.std.proofs.lemmas.Option.{same_Some}
+use Rattle.ax_trees.specs.Trees.{is_bare, height}
 use Rattle.ax_trees.proofs.Trees.{by_go}
-use Rattle.ax_tree.specs.Tree.{Tree}
-use Rattle.ax_tree.specs.Forest.{host_of, host_in, hosted_by, live_tree}
-use Rattle.ax_rules.specs.Dump.{dump_text}
+use Rattle.ax_tree.specs.Tree.{Tree, IsWellFormed}
+use Rattle.ax_tree.specs.Forest.{host_of, host_in, hosted_by, live_tree, IsSound, IsSoundTree}
+use Rattle.ax_run_rules.specs.Dump.{dump_text}
 use Rattle.ax_report.specs.Walks.{AreTheTrees}
 use Rattle.ax_replay.specs.Only.{one_tree}
 
@@ -37,4 +39,18 @@ pub dumped : (m : Tree) (ts before after : List ℕ) (r : Result (Unit {0}) NoMe
 dumped m ts before after (Ok u) e h = h (rw e (one_listed m))
 dumped m ts before after (Err x) e h = tt
 
-pub ruleset lone = (no_host, hosts_none, only_tree, no_other, one_listed, dumped)
+pub one_sound : (m : Tree) → IsWellFormed m → height m.trees ≤ 256 → IsSound (one_tree m)
+one_sound m formed low = record {
+  once = (refl, tt);
+  live = λ t n e.
+      by_go (eqb m.about.tree t)
+      (λ q. let own : m ≡ n = same_Some m n (rw q at e) in
+      let id : m.about.tree ≡ t = eqb-true m.about.tree t q in
+      subst (λ (k : Tree). IsSoundTree t k) own record { well_formed = formed; low = low; named = id })
+      (λ q. absurd (none_some (rw q at e)));
+}
+  where
+    none_some : {A : Type 0} {a : A} → ◌≡◌ {A = Option A} None (Some a) → ⊥
+    none_some e = absurd (cc)
+
+pub ruleset lone = (no_host, hosts_none, only_tree, no_other, one_listed, dumped, one_sound)

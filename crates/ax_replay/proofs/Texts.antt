@@ -6,12 +6,12 @@ use Rattle.ax_tree.specs.Journals.{Frame, after_entry}
 use Rattle.ax_ask.specs.declared.op.FrameOp.{FrameOp}
 use Rattle.ax_ask.specs.declared.op.TimedOp.{TimedOp}
 use Rattle.ax_ask.specs.declared.line.Line.{Line}
-use Rattle.ax_rules.specs.FrameSteps.{entry_of}
-use Rattle.ax_rules.specs.LineText.{line_text, lines_text}
+use Rattle.ax_run_rules.specs.FrameSteps.{entry_of}
+use Rattle.ax_run_rules.specs.LineText.{line_text, lines_text}
 use Rattle.ax_replay.specs.declared.sender.Sender.{Sender}
-use Rattle.ax_ask.specs.Calls.{IsLeafOp}
+use Rattle.ax_ask.specs.Calls.{IsLeafOp, HaveLeaves}
 use Rattle.ax_replay.specs.Replay.{op_line, op_lines, after_ops, receipt_line, receipt_lines, browser_lines, probe_lines}
-use Rattle.ax_replay.specs.Sending.{HaveLeaves, outline, frame_in, Fits, Becomes}
+use Rattle.ax_replay.specs.Sending.{outline, frame_in, Fits, Becomes}
 use Rattle.ax_replay.proofs.Frames.{lines_outline, after_outline, one_pass_more}
 
 pub lines_cons : (l : Line) (ls : List Line) → lines_text (l ∷ ls) ≡ line_text l ++ lines_text ls

@@ -17,11 +17,11 @@ use Rattle.ax_ask.specs.declared.line.Line.TheVariants as lines
 use Rattle.ax_ask.specs.declared.line.MadeNote.{MadeNote}
 use Rattle.ax_ask.specs.declared.line.PassNote.{PassNote}
 use Rattle.ax_ask.specs.declared.line.PassNote.TheVariants as passes
-use Rattle.ax_rules.specs.FrameSteps.{entry_of, edit_line, mark_refusal, update_note}
-use Rattle.ax_rules.specs.Steps.{probe_result}
-use Rattle.ax_rules.specs.Writing.{◌⌢◌}
-use Rattle.ax_rules.specs.LineText.{lines_text}
-use Rattle.ax_rules.specs.Dump.{dump_text}
+use Rattle.ax_run_rules.specs.FrameSteps.{entry_of, edit_line, mark_refusal, update_note}
+use Rattle.ax_run_rules.specs.Steps.{probe_result}
+use Rattle.ax_run_rules.specs.Writing.{◌⌢◌}
+use Rattle.ax_run_rules.specs.LineText.{lines_text}
+use Rattle.ax_run_rules.specs.Dump.{dump_text}
 
 -- the whole source in one update: its root, all nodes in pre-order, and the tree data
 unfoldable pub whole_update : Tree → TreeUpdate

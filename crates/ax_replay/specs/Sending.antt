@@ -1,5 +1,5 @@
 -- What a sender stands for, and what an operation makes of it.
-use Rattle.std.specs.Prelude.{ℕ, ◌≡◌, false, true, List, [], ◌∷◌, if◌then◌else◌, is_none, option_to_list}
+use Rattle.std.specs.Prelude.{ℕ, ◌≡◌, false, true, List, [], if◌then◌else◌, is_none, option_to_list}
 use Rattle.ax_node.specs.declared.node.NodeData.{NodeData}
 use Rattle.ax_trees.specs.Trees.{is_bare, has}
 use Rattle.ax_trees.specs.Nodes.{pre}
@@ -9,14 +9,8 @@ use Rattle.ax_tree.specs.Tree.{Tree, empty, node}
 use Rattle.ax_tree.specs.Edits.{refusal}
 use Rattle.ax_tree.specs.Serialised.{InStep}
 use Rattle.ax_tree.specs.Journals.{Frame}
-use Rattle.ax_ask.specs.declared.op.FrameOp.{FrameOp}
-use Rattle.ax_ask.specs.Calls.{IsLeafOp}
 use Rattle.ax_source.specs.Source.{Source, after_edit}
 use Rattle.ax_replay.specs.declared.sender.Sender.{Sender}
-
-abbrev pub HaveLeaves : List FrameOp → Type 0
-HaveLeaves [] = Unit {0}
-HaveLeaves (op ∷ left) = IsLeafOp op × HaveLeaves left
 
 -- a frame but for its token, its slip, and whether a pass was short: no line of a replay shows these
 abbrev pub outline : Frame → Frame

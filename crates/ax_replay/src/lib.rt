@@ -7,8 +7,6 @@
 mod only;
 mod replay;
 mod sender;
-#[cfg(test)]
-mod tests;
 mod whole;
 
 ghost use Rattle.ax_replay.specs.Laws.{WholeUpdateGivesSource};

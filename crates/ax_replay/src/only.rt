@@ -1,7 +1,7 @@
 //! The forest of one mirror.
 ghost use Rattle.std.specs.Prelude.{◌≡◌, ◌≤◌, ◌++◌, OnOk};
 ghost use Rattle.ax_trees.specs.Trees.{height};
-ghost use Rattle.ax_rules.specs.Dump.{dump_text};
+ghost use Rattle.ax_run_rules.specs.Dump.{dump_text};
 ghost use Rattle.ax_replay.specs.Only.{one_tree};
 
 use ax_base::{NoMemory, Place, TreeId};
@@ -58,6 +58,8 @@ impl Grove for OnlyTree {
 
     #[tactic(auto, using(crate::proofs::OneTree::lone))]
     fn tree(&self, t: TreeId) -> Option<&Mirror> {
+        // Asked for what it says: the mirror is well formed.
+        let _ = self.mirror.root();
         if t == self.first() {
             Some(&self.mirror)
         } else {

@@ -2,10 +2,11 @@
 ghost use Rattle.std.specs.Prelude.{◌≡◌, ◌++◌, ◌+◌, ◌<◌, ◌^◌, ◌∷◌, [], true, IfOk, OnOk, length};
 ghost use Rattle.ax_tree.specs.Updates.{applied};
 ghost use Rattle.ax_tree.specs.Journals.{pending};
-ghost use Rattle.ax_rules.specs.Steps.{probe_result};
-ghost use Rattle.ax_rules.specs.LineText.{lines_text};
+ghost use Rattle.ax_run_rules.specs.Steps.{probe_result};
+ghost use Rattle.ax_run_rules.specs.LineText.{lines_text};
 ghost use Rattle.ax_replay.specs.Replay.{replay_text, op_lines, after_ops, receipt_line, receipt_lines, browser_lines, probe_lines, refresh_lines, end_lines, last_mirror};
-ghost use Rattle.ax_replay.specs.Sending.{HaveLeaves, Fits, Becomes, frame_in};
+ghost use Rattle.ax_ask.specs.Calls.{HaveLeaves};
+ghost use Rattle.ax_replay.specs.Sending.{Fits, Becomes, frame_in};
 
 use crate::only::put_dump;
 use crate::sender::Sender;

@@ -7,7 +7,7 @@ ghost use Rattle.ax_tree.specs.Journals.{pending, after_packet, after_entry, new
 ghost use Rattle.ax_ask.specs.Calls.{IsLeafOp};
 ghost use Rattle.ax_ask.specs.declared.line.Line.TheVariants as lines;
 ghost use Rattle.ax_ask.specs.declared.op.FrameOp.TheVariants as ops;
-ghost use Rattle.ax_rules.specs.FrameSteps.{entry_of, edit_line, mark_refusal};
+ghost use Rattle.ax_run_rules.specs.FrameSteps.{entry_of, edit_line, mark_refusal};
 ghost use Rattle.ax_replay.specs.Replay.{op_line, pass_note, whole_note};
 ghost use Rattle.ax_replay.specs.Sending.{Fits, Becomes, frame_in, edit_taken, marked, marked_below};
 
@@ -143,7 +143,7 @@ fn all_sent(source: &mut SourceTree)
 }
 
 /// Makes an edit, and gives its line.
-#[tactic(auto, unfolding(ax_rules::specs::FrameSteps::edit_line), using(crate::proofs::Edits::edits))]
+#[tactic(auto, unfolding(ax_run_rules::specs::FrameSteps::edit_line), using(crate::proofs::Edits::edits))]
 fn edit_source(source: &mut SourceTree, tree: TreeId, edit: &Edit) -> Result<Line, NoMemory>
     requires leaf { HasLeaf edit.now }
     ensures line { IfOk result (λ l. l ≡ edit_line tree source.old.tree edit.now) }

@@ -2,14 +2,14 @@
 ghost use Rattle.std.specs.Prelude.{◌≡◌, ◌∷◌, [], false, map, IfOk};
 ghost use Rattle.std.specs.List.{flat_map};
 ghost use Rattle.ax_node.specs.declared.node.NodeData.{NodeData as Data};
-ghost use Rattle.ax_rules.specs.FrameSteps.{update_note};
+ghost use Rattle.ax_run_rules.specs.FrameSteps.{update_note};
 ghost use Rattle.ax_replay.specs.Replay.{whole_update};
 ghost use Rattle.ax_replay.specs.Sending.{node_list};
 
 use ax_ask::{MadeNote, UpdateNote, UpdateNotes};
 use ax_base::{Ids, NoMemory, NodeId, PassNo, Token};
-use ax_store::pre;
 use ax_tree::{Nodes, TreeUpdate, TreeView};
+use ax_views::pre;
 use std::alloc::Global;
 
 fn nodes_of<V: TreeView>(alloc: Global, view: &V, ids: &[NodeId]) -> Result<Nodes, NoMemory>
@@ -61,7 +61,7 @@ fn ids_of(alloc: Global, update: &TreeUpdate) -> Result<Ids, NoMemory>
     Ok(ids)
 }
 
-#[tactic(auto, unfolding(ax_rules::specs::FrameSteps::update_note))]
+#[tactic(auto, unfolding(ax_run_rules::specs::FrameSteps::update_note))]
 fn note_of(alloc: Global, update: &TreeUpdate) -> Result<UpdateNote, NoMemory>
     ensures { IfOk result (λ n. n ≡ update_note update.now) }
 {

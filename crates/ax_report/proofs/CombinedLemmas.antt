@@ -13,8 +13,8 @@ use Rattle.ax_tree.specs.Tree.{Tree, node, data_of}
 use Rattle.ax_tree.specs.Forest.{Forest, first_tree}
 use Rattle.ax_rules.specs.Stitched.{Placed, stitched}
 use Rattle.ax_rules.specs.Combined.{combined_data, combined_node, numbered_look}
-use Rattle.ax_rules.specs.Dump.{tree_line, look_text}
-use Rattle.ax_rules.specs.CombineText.{node_line, placed_text, combined_text}
+use Rattle.ax_run_rules.specs.Dump.{tree_line, look_text}
+use Rattle.ax_run_rules.specs.CombineText.{node_line, placed_text, combined_text}
 use Rattle.ax_report.specs.Combining.{IsCombined, place_of_number, row_head, row_text}
 
 -- ---- the rows, one after the other

@@ -4,7 +4,7 @@ use Rattle.std.specs.declared.alloc.AllocError.{AllocError}
 use Rattle.ax_base.specs.declared.seq.NoMemory.{NoMemory}
 use Rattle.ax_trees.specs.Lists.{contains, NoneTwice}
 use Rattle.ax_tree.specs.Forest.{Forest, Standing}
-use Rattle.ax_rules.specs.Dump.{dump_text, tree_or_gone}
+use Rattle.ax_run_rules.specs.Dump.{dump_text, tree_or_gone}
 use Rattle.ax_report.specs.Walks.{standing_text, AreTheTrees}
 
 neither : (a b : Bool) → (a || b) ≡ false → (a ≡ false) × (b ≡ false)

@@ -7,7 +7,7 @@ use Rattle.std.proofs.lemmas.Grind.{flat_map-append}
 use Rattle.std.proofs.lemmas.Bool.Decides.{nat_tests}
 use Rattle.std.proofs.lemmas.Str.{encode_ascii, encodes-append, encodes-chars}
 use Rattle.std.specs.Prelude.{codes}
-use Rattle.ax_rules.specs.Writing.{control_text, quoted_scalar}
+use Rattle.ax_run_rules.specs.Writing.{control_text, quoted_scalar}
 use Rattle.ax_report.specs.Strings.{byte_text}
 
 -- ---- zero

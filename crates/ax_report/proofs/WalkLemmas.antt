@@ -11,8 +11,8 @@ use Rattle.ax_trees.specs.Nodes.{Node, node_at}
 use Rattle.ax_trees.specs.Spots.{grown, grown_one, grown_level}
 use Rattle.ax_trees.proofs.Grown.{told}
 use Rattle.ax_tree.specs.Tree.{Tree, IsWellFormed, node, data_of}
-use Rattle.ax_rules.specs.Dump.{nodes_text, tree_line, tree_text}
-use Rattle.ax_rules.specs.Writing.{quoted}
+use Rattle.ax_run_rules.specs.Dump.{nodes_text, tree_line, tree_text}
+use Rattle.ax_run_rules.specs.Writing.{quoted}
 use Rattle.ax_report.specs.Walks.{trees_part, focus_part, ends_part, node_line, under_text}
 
 -- ---- the trees at a list of ids, one after the other

@@ -7,9 +7,9 @@ use Rattle.ax_tree.specs.Tree.{Tree, node, data_of}
 use Rattle.ax_tree.specs.Forest.{Forest, first_tree}
 use Rattle.ax_rules.specs.Stitched.{Placed, stitched, places, parent_of}
 use Rattle.ax_rules.specs.Combined.{number_of, combined_node, combined_data}
-use Rattle.ax_rules.specs.Writing.{◌⌢◌, id_text, place_text}
-use Rattle.ax_rules.specs.ReplyText.{role_text}
-use Rattle.ax_rules.specs.CombineText.{node_line}
+use Rattle.ax_run_rules.specs.Writing.{◌⌢◌, id_text, place_text}
+use Rattle.ax_run_rules.specs.ReplyText.{role_text}
+use Rattle.ax_run_rules.specs.CombineText.{node_line}
 
 -- the place of a number, from 1
 abbrev pub place_of_number : List Placed → ℕ → Option Place

@@ -3,8 +3,8 @@ use Rattle.std.specs.Prelude.{ℕ, List, codes}
 use Rattle.std.specs.Fmt.{decimal}
 use Rattle.ax_base.specs.declared.position.Place.{Place}
 use Rattle.ax_ask.specs.declared.op.Item.{Item}
-use Rattle.ax_rules.specs.Writing.{◌⌢◌, quoted_scalar, place_text}
-use Rattle.ax_rules.specs.ReplayText.{item_text}
+use Rattle.ax_run_rules.specs.Writing.{◌⌢◌, quoted_scalar, place_text}
+use Rattle.ax_run_rules.specs.ReplayText.{item_text}
 
 -- a further number of a list
 unfoldable pub number_after : ℕ → List ℕ

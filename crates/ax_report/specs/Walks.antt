@@ -10,9 +10,9 @@ use Rattle.ax_trees.specs.Spots.{grown}
 use Rattle.ax_tree.specs.Tree.{Tree}
 use Rattle.ax_tree.specs.Forest.{Forest, Standing, live_tree}
 use Rattle.ax_rules.specs.Looks.{same_area}
-use Rattle.ax_rules.specs.Writing.{◌⌢◌, area_text, id_text, yes_no}
-use Rattle.ax_rules.specs.ReplyText.{role_text}
-use Rattle.ax_rules.specs.Dump.{end_text, look_text, nodes_text, tree_or_gone}
+use Rattle.ax_run_rules.specs.Writing.{◌⌢◌, area_text, id_text, yes_no}
+use Rattle.ax_run_rules.specs.ReplyText.{role_text}
+use Rattle.ax_run_rules.specs.Dump.{end_text, look_text, nodes_text, tree_or_gone}
 
 -- a rectangle that isn't blank
 unfoldable pub area_part : Area → List ℕ

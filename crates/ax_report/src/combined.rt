@@ -3,7 +3,7 @@ ghost use Rattle.std.specs.Prelude.{◌≡◌, ◌++◌, ◌<◌, ◌+◌, ◌^�
 ghost use Rattle.std.specs.List.{flat_map, enumerate_from};
 ghost use Rattle.ax_tree.specs.Forest.{Forest, first_tree};
 ghost use Rattle.ax_rules.specs.Stitched.{stitched};
-ghost use Rattle.ax_rules.specs.CombineText.{node_line, combined_text};
+ghost use Rattle.ax_run_rules.specs.CombineText.{node_line, combined_text};
 ghost use Rattle.ax_report.specs.Buffers.{Begins};
 ghost use Rattle.ax_report.specs.Combining.{IsCombined, place_of_number, row_head, row_text};
 

@@ -3,7 +3,7 @@ ghost use Rattle.std.specs.Prelude.{◌≡◌, ◌++◌, ◌≤◌, OnOk, OnErr,
 ghost use Rattle.std.specs.List.{flat_map};
 ghost use Rattle.ax_node.specs.Look.{look_of};
 ghost use Rattle.ax_trees.specs.Trees.{height};
-ghost use Rattle.ax_rules.specs.Dump.{tree_text};
+ghost use Rattle.ax_run_rules.specs.Dump.{tree_text};
 ghost use Rattle.ax_report.specs.Buffers.{Begins};
 ghost use Rattle.ax_report.specs.Walks.{node_line, under_text, standing_text};
 

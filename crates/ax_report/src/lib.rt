@@ -1,5 +1,4 @@
-//! The printed text: the line of each step, the dump of a forest, an order, the combined tree, and the line of a refused
-//! script.
+//! The printed text: the line of each step, the dump of a forest, an order and the combined tree.
 //!
 //! Each call appends exactly the bytes that the definitions of `ax_rules` and of this crate's `specs/` give, by which
 //! docs/FORMATS.md tells of them, and costs what it appends. Where there is no memory, the buffer is left as it was.
@@ -7,7 +6,6 @@
 
 mod combined;
 mod dump;
-mod error;
 mod line;
 mod names;
 mod node;
@@ -19,16 +17,14 @@ mod results;
 ghost use Rattle.std.specs.Prelude.{◌≡◌, ◌++◌, OnOk, OnErr, IsOk, IsErr, take, option_to_list};
 ghost use Rattle.std.specs.List.{flat_map};
 ghost use Rattle.ax_tree.specs.Forest.{first_tree};
-ghost use Rattle.ax_rules.specs.LineText.{line_text};
-ghost use Rattle.ax_rules.specs.CombineText.{combined_text};
-ghost use Rattle.ax_rules.specs.ReplayText.{order_text};
-ghost use Rattle.ax_rules.specs.Dump.{dump_text};
-ghost use Rattle.ax_report.specs.ErrorText.{script_error_text};
+ghost use Rattle.ax_run_rules.specs.LineText.{line_text};
+ghost use Rattle.ax_run_rules.specs.CombineText.{combined_text};
+ghost use Rattle.ax_run_rules.specs.ReplayText.{order_text};
+ghost use Rattle.ax_run_rules.specs.Dump.{dump_text};
 ghost use Rattle.ax_report.specs.Walks.{standing_text, AreTheTrees};
 
 use ax_ask::{Items, Line};
 use ax_base::{NoMemory, TreeId};
-use ax_script::ScriptErr;
 use ax_tree::Grove;
 pub use combined::CombinedView;
 use std::alloc::AllocError;
@@ -95,17 +91,3 @@ pub fn combined_text<C: CombinedView>(c: &C, out: &mut Bytes) -> Result<(), NoMe
     let done = combined::put_combined(alloc, c, out);
     ended(out, before, done)
 }
-
-/// Appends the line of a refused script. Want of memory is no refusal, and has no text.
-pub fn script_error_text(e: &ScriptErr, out: &mut Bytes) -> Result<(), NoMemory>
-    ensures ok { OnOk result (out.new.items ≡ out.old.items ++ script_error_text e.now) }
-    ensures err { OnErr result (out.new.items ≡ out.old.items) }
-{
-    let alloc = *out.allocator();
-    let before = out.len();
-    let done = error::put_error(alloc, e, out);
-    ended(out, before, done)
-}
-
-#[cfg(test)]
-mod tests;

@@ -2,11 +2,11 @@
 ghost use Rattle.std.specs.Prelude.{◌≡◌, ◌++◌, IfOk, OnOk, OnErr, string_bytes};
 ghost use Rattle.std.specs.List.{flat_map};
 ghost use Rattle.ax_ask.specs.declared.line.Line.TheVariants as lines;
-ghost use Rattle.ax_rules.specs.LineText.{update_line, pass_text, event_node, event_line, verdict_text, line_text};
+ghost use Rattle.ax_run_rules.specs.LineText.{update_line, pass_text, event_node, event_line, verdict_text, line_text};
 ghost use Rattle.ax_report.specs.Buffers.{Begins};
 
 use crate::Bytes;
-use crate::names::{act_name, data_text, ok_or_gone, op_name, query_name, touch_name};
+use crate::names::{data_text, ok_or_gone, touch_name};
 use crate::put::{put, put_ids};
 use crate::reply::put_reply;
 use crate::results::{
@@ -18,7 +18,7 @@ use ax_base::{NodeId, Token, TreeId};
 use ax_tree::{EditErr, Event, MarkErr, Verdict};
 use std::alloc::{AllocError, Global};
 
-#[tactic(auto, unfolding(ax_rules::specs::LineText::line_text))]
+#[tactic(auto, unfolding(ax_run_rules::specs::LineText::line_text))]
 fn edited_text(
     alloc: Global,
     tree: TreeId,
@@ -29,13 +29,13 @@ fn edited_text(
     ensures { IfOk result (λ s. string_bytes s ≡ line_text (lines.Edited tree name node refused)) }
 {
     let tree = tree.get();
-    let name = op_name(name);
+    let name = name.name();
     let node = node.get();
     let end = edit_result(alloc, refused)?;
     format!(in alloc; "f{tree} {name} {node} {end}\n")
 }
 
-#[tactic(auto, unfolding(ax_rules::specs::LineText::line_text))]
+#[tactic(auto, unfolding(ax_run_rules::specs::LineText::line_text))]
 fn touched_text(
     alloc: Global,
     tree: TreeId,
@@ -52,7 +52,7 @@ fn touched_text(
     format!(in alloc; "f{tree} {name} {node} {end}\n")
 }
 
-#[tactic(auto, unfolding(ax_rules::specs::LineText::line_text))]
+#[tactic(auto, unfolding(ax_run_rules::specs::LineText::line_text))]
 fn acted_text(
     alloc: Global,
     tree: TreeId,
@@ -63,13 +63,13 @@ fn acted_text(
     ensures { IfOk result (λ s. string_bytes s ≡ line_text (lines.Acted tree name node out)) }
 {
     let tree = tree.get();
-    let name = act_name(name);
+    let name = name.name();
     let node = node.get();
     let end = act_result(alloc, out)?;
     format!(in alloc; "p{tree} {name} {node} {end}\n")
 }
 
-#[tactic(auto, unfolding(ax_rules::specs::LineText::line_text))]
+#[tactic(auto, unfolding(ax_run_rules::specs::LineText::line_text))]
 fn data_set_text(alloc: Global, tree: TreeId) -> Result<String, AllocError>
     ensures { IfOk result (λ s. string_bytes s ≡ line_text (lines.DataSet tree)) }
 {
@@ -77,7 +77,7 @@ fn data_set_text(alloc: Global, tree: TreeId) -> Result<String, AllocError>
     format!(in alloc; "f{tree} data ok\n")
 }
 
-#[tactic(auto, unfolding(ax_rules::specs::LineText::line_text))]
+#[tactic(auto, unfolding(ax_run_rules::specs::LineText::line_text))]
 fn asked_text(alloc: Global, tree: TreeId, token: Option<Token>) -> Result<String, AllocError>
     ensures { IfOk result (λ s. string_bytes s ≡ line_text (lines.Asked tree token)) }
 {
@@ -86,7 +86,7 @@ fn asked_text(alloc: Global, tree: TreeId, token: Option<Token>) -> Result<Strin
     format!(in alloc; "b ask {tree} {end}\n")
 }
 
-#[tactic(auto, unfolding(ax_rules::specs::LineText::line_text))]
+#[tactic(auto, unfolding(ax_run_rules::specs::LineText::line_text))]
 fn destroyed_text(alloc: Global, tree: TreeId, gone: bool) -> Result<String, AllocError>
     ensures { IfOk result (λ s. string_bytes s ≡ line_text (lines.Destroyed tree gone)) }
 {
@@ -95,7 +95,7 @@ fn destroyed_text(alloc: Global, tree: TreeId, gone: bool) -> Result<String, All
     format!(in alloc; "b destroy {tree} {end}\n")
 }
 
-#[tactic(auto, unfolding(ax_rules::specs::LineText::line_text))]
+#[tactic(auto, unfolding(ax_run_rules::specs::LineText::line_text))]
 fn probed_text(alloc: Global, tree: TreeId, note: ProbeNote) -> Result<String, AllocError>
     ensures { IfOk result (λ s. string_bytes s ≡ line_text (lines.Probed tree note)) }
 {
@@ -104,7 +104,7 @@ fn probed_text(alloc: Global, tree: TreeId, note: ProbeNote) -> Result<String, A
     format!(in alloc; "b probe {tree} {end}\n")
 }
 
-#[tactic(auto, unfolding(ax_rules::specs::LineText::line_text))]
+#[tactic(auto, unfolding(ax_run_rules::specs::LineText::line_text))]
 fn delivered_text(alloc: Global, tree: TreeId, token: Token) -> Result<String, AllocError>
     ensures { IfOk result (λ s. string_bytes s ≡ line_text (lines.Delivered tree token)) }
 {
@@ -113,7 +113,7 @@ fn delivered_text(alloc: Global, tree: TreeId, token: Token) -> Result<String, A
     format!(in alloc; "d{tree}:{token}\n")
 }
 
-#[tactic(auto, unfolding(ax_rules::specs::LineText::update_line), using(crate::proofs::BufferLemmas::begins))]
+#[tactic(auto, unfolding(ax_run_rules::specs::LineText::update_line), using(crate::proofs::BufferLemmas::begins))]
 fn put_update(alloc: Global, update: &UpdateNote, out: &mut Bytes) -> Result<(), AllocError>
     ensures ok { OnOk result (out.new.items ≡ out.old.items ++ update_line update.now) }
     ensures err { OnErr result (Begins out.old.items out.new.items) }
@@ -139,7 +139,7 @@ fn put_updates(alloc: Global, updates: &[UpdateNote], out: &mut Bytes) -> Result
     Ok(())
 }
 
-#[tactic(auto, unfolding(ax_rules::specs::LineText::pass_text), using(crate::proofs::BufferLemmas::begins))]
+#[tactic(auto, unfolding(ax_run_rules::specs::LineText::pass_text), using(crate::proofs::BufferLemmas::begins))]
 fn put_pass(alloc: Global, note: &PassNote, out: &mut Bytes) -> Result<(), AllocError>
     ensures ok { OnOk result (out.new.items ≡ out.old.items ++ pass_text note.now) }
     ensures err { OnErr result (Begins out.old.items out.new.items) }
@@ -160,7 +160,7 @@ fn put_pass(alloc: Global, note: &PassNote, out: &mut Bytes) -> Result<(), Alloc
     }
 }
 
-#[tactic(auto, unfolding(ax_rules::specs::LineText::line_text), using(crate::proofs::BufferLemmas::begins))]
+#[tactic(auto, unfolding(ax_run_rules::specs::LineText::line_text), using(crate::proofs::BufferLemmas::begins))]
 fn put_passed(
     alloc: Global,
     tree: TreeId,
@@ -187,7 +187,7 @@ fn event_node(alloc: Global, node: Option<NodeId>) -> Result<String, AllocError>
     }
 }
 
-#[tactic(auto, unfolding(ax_rules::specs::LineText::event_line))]
+#[tactic(auto, unfolding(ax_run_rules::specs::LineText::event_line))]
 fn event_text(alloc: Global, event: Event) -> Result<String, AllocError>
     ensures { IfOk result (λ s. string_bytes s ≡ event_line event) }
 {
@@ -207,7 +207,7 @@ fn put_events(alloc: Global, events: &[Event], out: &mut Bytes) -> Result<(), Al
     Ok(())
 }
 
-#[tactic(auto, unfolding(ax_rules::specs::LineText::verdict_text), using(crate::proofs::BufferLemmas::begins))]
+#[tactic(auto, unfolding(ax_run_rules::specs::LineText::verdict_text), using(crate::proofs::BufferLemmas::begins))]
 fn put_verdict(alloc: Global, verdict: &Verdict, out: &mut Bytes) -> Result<(), AllocError>
     ensures ok { OnOk result (out.new.items ≡ out.old.items ++ verdict_text verdict.now) }
     ensures err { OnErr result (Begins out.old.items out.new.items) }
@@ -230,7 +230,7 @@ fn put_verdict(alloc: Global, verdict: &Verdict, out: &mut Bytes) -> Result<(), 
     }
 }
 
-#[tactic(auto, unfolding(ax_rules::specs::LineText::line_text), using(crate::proofs::BufferLemmas::begins))]
+#[tactic(auto, unfolding(ax_run_rules::specs::LineText::line_text), using(crate::proofs::BufferLemmas::begins))]
 fn put_received(
     alloc: Global,
     tree: TreeId,
@@ -245,7 +245,7 @@ fn put_received(
     put_verdict(alloc, verdict, out)
 }
 
-#[tactic(auto, unfolding(ax_rules::specs::LineText::line_text), using(crate::proofs::BufferLemmas::begins))]
+#[tactic(auto, unfolding(ax_run_rules::specs::LineText::line_text), using(crate::proofs::BufferLemmas::begins))]
 fn put_answered(
     alloc: Global,
     reader: usize,
@@ -256,7 +256,7 @@ fn put_answered(
     ensures ok { OnOk result (out.new.items ≡ out.old.items ++ line_text (lines.Answered reader query reply.now)) }
     ensures err { OnErr result (Begins out.old.items out.new.items) }
 {
-    let query = query_name(query);
+    let query = query.name();
     put(out, &format!(in alloc; "r{reader} {query} = ")?)?;
     put_reply(alloc, reply, out)?;
     put(out, "\n")?;

@@ -3,8 +3,8 @@ ghost use Rattle.std.specs.Prelude.{◌≡◌, ◌++◌, IfOk, OnOk, OnErr, code
 ghost use Rattle.std.specs.List.{flat_map};
 ghost use Rattle.ax_node.specs.Look.{look_of, blank_area};
 ghost use Rattle.ax_rules.specs.Looks.{same_area};
-ghost use Rattle.ax_rules.specs.Writing.{◌⌢◌, area_text};
-ghost use Rattle.ax_rules.specs.Dump.{end_text, tree_line, value_text, state_text, attr_text, look_text};
+ghost use Rattle.ax_run_rules.specs.Writing.{◌⌢◌, area_text};
+ghost use Rattle.ax_run_rules.specs.Dump.{end_text, tree_line, value_text, state_text, attr_text, look_text};
 ghost use Rattle.ax_report.specs.Buffers.{Begins};
 ghost use Rattle.ax_report.specs.Walks.{area_part, trees_part, focus_part, ends_part};
 
@@ -98,7 +98,7 @@ fn put_value(alloc: Global, value: &Value, out: &mut Bytes) -> Result<(), AllocE
     }
 }
 
-#[tactic(auto, unfolding(ax_rules::specs::Dump::attr_text), using(crate::proofs::BufferLemmas::begins))]
+#[tactic(auto, unfolding(ax_run_rules::specs::Dump::attr_text), using(crate::proofs::BufferLemmas::begins))]
 fn put_attr(alloc: Global, attr: &(Key, Value), out: &mut Bytes) -> Result<(), AllocError>
     ensures ok { OnOk result (out.new.items ≡ out.old.items ++ attr_text attr.now) }
     ensures err { OnErr result (Begins out.old.items out.new.items) }
@@ -119,7 +119,7 @@ fn put_attrs(alloc: Global, attrs: &[(Key, Value)], out: &mut Bytes) -> Result<(
     Ok(())
 }
 
-#[tactic(auto, unfolding(ax_rules::specs::Dump::state_text), using(crate::proofs::BufferLemmas::begins))]
+#[tactic(auto, unfolding(ax_run_rules::specs::Dump::state_text), using(crate::proofs::BufferLemmas::begins))]
 fn put_state(state: State, out: &mut Bytes) -> Result<(), AllocError>
     ensures ok { OnOk result (out.new.items ≡ out.old.items ++ state_text state) }
     ensures err { OnErr result (Begins out.old.items out.new.items) }
@@ -145,7 +145,7 @@ fn is_blank(rect: &Rect) -> bool
     rect.same(&Rect::blank())
 }
 
-#[tactic(auto, unfolding(ax_rules::specs::Writing::area_text))]
+#[tactic(auto, unfolding(ax_run_rules::specs::Writing::area_text))]
 fn rect_text(alloc: Global, rect: &Rect) -> Result<String, AllocError>
     ensures { IfOk result (λ s. string_bytes s ≡ area_text rect.now.x rect.now.y rect.now.w rect.now.h) }
 {
@@ -175,7 +175,7 @@ fn area_part(alloc: Global, rect: &Rect) -> Result<String, AllocError>
 }
 
 /// The rectangle where it isn't blank, the states and the attributes.
-#[tactic(auto, unfolding(ax_rules::specs::Dump::look_text, crate::specs::Walks::area_part), using(crate::proofs::BufferLemmas::begins))]
+#[tactic(auto, unfolding(ax_run_rules::specs::Dump::look_text, crate::specs::Walks::area_part), using(crate::proofs::BufferLemmas::begins))]
 pub(crate) fn put_look(alloc: Global, node: &NodeData, out: &mut Bytes) -> Result<(), AllocError>
     ensures ok { OnOk result (out.new.items ≡ out.old.items ++ look_text (look_of node.now)) }
     ensures err { OnErr result (Begins out.old.items out.new.items) }

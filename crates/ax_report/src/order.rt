@@ -1,7 +1,7 @@
 //! The text of an order.
 ghost use Rattle.std.specs.Prelude.{◌≡◌, ◌++◌, IfOk, OnOk, OnErr, string_bytes};
 ghost use Rattle.std.specs.List.{flat_map};
-ghost use Rattle.ax_rules.specs.ReplayText.{item_text, order_text};
+ghost use Rattle.ax_run_rules.specs.ReplayText.{item_text, order_text};
 ghost use Rattle.ax_report.specs.Buffers.{Begins};
 ghost use Rattle.ax_report.specs.Strings.{item_after};
 
@@ -10,7 +10,7 @@ use crate::put::put;
 use ax_ask::Item;
 use std::alloc::{AllocError, Global};
 
-#[tactic(auto, unfolding(ax_rules::specs::ReplayText::item_text))]
+#[tactic(auto, unfolding(ax_run_rules::specs::ReplayText::item_text))]
 fn item_text(alloc: Global, item: Item) -> Result<String, AllocError>
     ensures { IfOk result (λ s. string_bytes s ≡ item_text item) }
 {
@@ -52,7 +52,7 @@ fn put_items_after(alloc: Global, items: &[Item], out: &mut Bytes) -> Result<(),
     Ok(())
 }
 
-#[tactic(auto, unfolding(ax_rules::specs::ReplayText::order_text, crate::specs::Strings::item_after), using(crate::proofs::BufferLemmas::begins))]
+#[tactic(auto, unfolding(ax_run_rules::specs::ReplayText::order_text, crate::specs::Strings::item_after), using(crate::proofs::BufferLemmas::begins))]
 pub(crate) fn put_order(alloc: Global, items: &[Item], out: &mut Bytes) -> Result<(), AllocError>
     ensures ok { OnOk result (out.new.items ≡ out.old.items ++ order_text items.now) }
     ensures err { OnErr result (Begins out.old.items out.new.items) }

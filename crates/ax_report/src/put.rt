@@ -3,7 +3,7 @@
 //! Where there is no memory, a buffer may keep a part of the text behind what it had.
 ghost use Rattle.std.specs.Prelude.{◌≡◌, ◌<◌, ◌++◌, IfOk, OnOk, OnErr, encode_utf8_all, string_bytes};
 ghost use Rattle.std.specs.List.{flat_map};
-ghost use Rattle.ax_rules.specs.Writing.{control_text, listing, quoted, quoted_scalar};
+ghost use Rattle.ax_run_rules.specs.Writing.{control_text, listing, quoted, quoted_scalar};
 ghost use Rattle.std.specs.Fmt.{decimal};
 ghost use Rattle.ax_report.specs.Buffers.{Begins};
 ghost use Rattle.ax_report.specs.Strings.{byte_text, number_after};
@@ -107,7 +107,7 @@ fn put_scalars(alloc: Global, text: &Text, out: &mut Bytes) -> Result<(), AllocE
 }
 
 /// A text between quotes, with escapes.
-#[tactic(auto, unfolding(ax_rules::specs::Writing::quoted), using(crate::proofs::BufferLemmas::begins))]
+#[tactic(auto, unfolding(ax_run_rules::specs::Writing::quoted), using(crate::proofs::BufferLemmas::begins))]
 pub(crate) fn put_quoted(alloc: Global, text: &Text, out: &mut Bytes) -> Result<(), AllocError>
     ensures ok { OnOk result (out.new.items ≡ out.old.items ++ quoted text.now) }
     ensures err { OnErr result (Begins out.old.items out.new.items) }

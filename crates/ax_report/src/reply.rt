@@ -1,20 +1,20 @@
 //! Replies.
 ghost use Rattle.std.specs.Prelude.{◌≡◌, ◌++◌, IfOk, OnOk, OnErr, string_bytes};
 ghost use Rattle.std.specs.List.{flat_map};
-ghost use Rattle.ax_rules.specs.Writing.{listing, place_text, area_text};
-ghost use Rattle.ax_rules.specs.ReplyText.{pos_text, reply_text};
+ghost use Rattle.ax_run_rules.specs.Writing.{listing, place_text, area_text};
+ghost use Rattle.ax_run_rules.specs.ReplyText.{pos_text, reply_text};
 ghost use Rattle.ax_report.specs.Buffers.{Begins};
 ghost use Rattle.ax_report.specs.Strings.{place_after};
 
 use crate::Bytes;
-use crate::names::{affinity_name, order_name};
+use crate::names::order_name;
 use crate::put::{put, put_quoted};
 use crate::results::{place_text, with_number, with_numbers};
-use ax_ask::Reply;
+use ax_ask::{Reply, affinity_name};
 use ax_base::{Place, Pos};
 use std::alloc::{AllocError, Global};
 
-#[tactic(auto, unfolding(ax_rules::specs::Writing::area_text))]
+#[tactic(auto, unfolding(ax_run_rules::specs::Writing::area_text))]
 fn area_text(alloc: Global, x: i64, y: i64, w: i64, h: i64) -> Result<String, AllocError>
     ensures { IfOk result (λ s. string_bytes s ≡ area_text x y w h) }
 {
@@ -78,7 +78,7 @@ fn put_places(alloc: Global, places: &[Place], out: &mut Bytes) -> Result<(), Al
     }
 }
 
-#[tactic(auto, unfolding(ax_rules::specs::ReplyText::reply_text), using(crate::proofs::BufferLemmas::begins))]
+#[tactic(auto, unfolding(ax_run_rules::specs::ReplyText::reply_text), using(crate::proofs::BufferLemmas::begins))]
 pub(crate) fn put_reply(alloc: Global, reply: &Reply, out: &mut Bytes) -> Result<(), AllocError>
     ensures ok { OnOk result (out.new.items ≡ out.old.items ++ reply_text reply.now) }
     ensures err { OnErr result (Begins out.old.items out.new.items) }

@@ -1,8 +1,8 @@
 //! What became of a step, as a short text of its own.
 ghost use Rattle.std.specs.Prelude.{◌≡◌, Some, IfOk, string_bytes};
 ghost use Rattle.std.specs.Fmt.{decimal};
-ghost use Rattle.ax_rules.specs.Writing.{id_text, with_number, with_numbers, place_text};
-ghost use Rattle.ax_rules.specs.LineText.{edit_result, touch_result, refusal_text, probe_text, act_result, token_text};
+ghost use Rattle.ax_run_rules.specs.Writing.{id_text, with_number, with_numbers, place_text};
+ghost use Rattle.ax_run_rules.specs.LineText.{edit_result, touch_result, refusal_text, probe_text, act_result, token_text};
 
 use ax_ask::{ActNote, ProbeNote};
 use ax_base::{NodeId, Place, Token, TreeId};
@@ -50,7 +50,7 @@ fn with_id(alloc: Global, word: &str, id: NodeId) -> Result<String, AllocError>
     with_number(alloc, word, u64::from(id.get()))
 }
 
-#[tactic(auto, unfolding(ax_rules::specs::Writing::place_text))]
+#[tactic(auto, unfolding(ax_run_rules::specs::Writing::place_text))]
 pub(crate) fn place_text(alloc: Global, place: Place) -> Result<String, AllocError>
     ensures { IfOk result (λ s. string_bytes s ≡ place_text place) }
 {

@@ -1,16 +1,13 @@
 -- What one more entry or item makes of the rules that go over a whole list: what bodies that keep running values need.
-use Rattle.std.proofs.Common.{ℕ, ◌≡◌, ◌||◌, List, [], ◌∷◌, ◌++◌, refl, sym, ap, ◌∙◌, Option, Some, None, arith, append_assoc, append-nil, option_and_then}
+use Rattle.std.proofs.Common.{ℕ, ◌≡◌, ◌||◌, List, [], ◌∷◌, ◌++◌, refl, sym, ap, ◌∙◌, arith, append_assoc, append-nil}
 use Rattle.std.proofs.lemmas.List.Folds.{list_any-append}
 use Rattle.std.proofs.lemmas.List.Elements.{filter_map-append}
 use Rattle.ax_tree.specs.declared.packet.HEntry.{HEntry}
 use Rattle.ax_tree.specs.declared.packet.JEntry.{JEntry}
 use Rattle.ax_tree.specs.Tree.{Tree, empty}
 use Rattle.ax_tree.specs.Journals.{Frame, new_frame, after_entry, frame_from, frame_of}
-use Rattle.ax_ask.specs.declared.op.Item.{Item}
 use Rattle.ax_rules.specs.Histories.{ends, is_gone, packet_in, got, at_after, at_from, applied_pass}
 use Rattle.ax_rules.specs.Mirrors.{built_after, built_from, built_of}
-use Rattle.ax_rules.specs.States.{Run}
-use Rattle.ax_rules.specs.Steps.{step, run}
 
 pub is_gone-append : (h : List HEntry) (e : HEntry) (t : ℕ) → is_gone (h ++ e ∷ []) t ≡ (is_gone h t || ends t e)
 unfolding is_gone
@@ -44,13 +41,3 @@ frame_from-append t (x ∷ j) e f = frame_from-append t j e (after_entry t x f)
 
 pub frame_of-append : (t : ℕ) (j : List JEntry) (e : JEntry) → frame_of t (j ++ e ∷ []) ≡ after_entry t e (frame_of t j)
 frame_of-append t j e = frame_from-append t j e (new_frame t)
-
-then_run : (front back : List Item) (r : Option Run) → ((q : Run) → run (front ++ back) q ≡ option_and_then (run back) (run front q))
-    → option_and_then (run (front ++ back)) r ≡ option_and_then (run back) (option_and_then (run front) r)
-then_run front back None h = refl
-then_run front back (Some q) h = h q
-
--- the run of an order goes on from the run of its front
-pub run-append : (front back : List Item) (r : Run) → run (front ++ back) r ≡ option_and_then (run back) (run front r)
-run-append [] back r = refl
-run-append (i ∷ front) back r = then_run front back (step r i) (run-append front back)

@@ -1,7 +1,6 @@
 -- Where a tree's packets are good, the applied bundles build the sources, and the applied passes rise.
-use Rattle.std.proofs.Common.{ℕ, suc, ◌≡◌, ◌≤◌, ◌==◌, ◌⊎◌, inl, inr, not, Bool, true, false, cond, ◌||◌, if◌then◌else◌, List, [], ◌∷◌, ◌++◌, length, slice_get, refl, sym, ap, ◌∙◌, subst, ap₂, Option, Some, None, arith, append_assoc, append-nil, filter_map, flat_map, le_trans, le_refl, Ok}
+use Rattle.std.proofs.Common.{ℕ, suc, ◌≡◌, ◌≤◌, ◌==◌, ◌⊎◌, inl, inr, not, Bool, true, false, cond, ◌||◌, if◌then◌else◌, List, [], ◌∷◌, ◌++◌, length, slice_get, refl, sym, ap, ◌∙◌, subst, ap₂, Option, Some, None, arith, append_assoc, append-nil, filter_map, le_trans, le_refl, Ok}
 use Rattle.std.proofs.lemmas.Bool.{false≢true, eqb-true}
-use Rattle.std.proofs.lemmas.List.{take-append-le}
 use Rattle.ax_base.specs.declared.pass.PassNo.{PassNo}
 use Rattle.ax_base.specs.declared.pass.Token.{Token}
 use Rattle.ax_tree.specs.declared.packet.Packet.{Packet}
@@ -13,7 +12,8 @@ use Rattle.ax_tree.specs.declared.verdict.Verdict.{Verdict}
 use Rattle.ax_tree.specs.declared.verdict.Verdict.TheVariants.{Applied, Stale, Gap, Gone}
 use Rattle.ax_tree.specs.Tree.{Tree, empty}
 use Rattle.ax_tree.specs.Updates.{applied_all}
-use Rattle.ax_tree.specs.Packets.{GoodAt, IsGood, source_at, edited_all}
+use Rattle.ax_tree.specs.Packets.{GoodAt, IsGood, source_at}
+use Rattle.ax_tree.proofs.GoodFronts.{source_at-front}
 use Rattle.ax_rules.specs.Histories.{is_gone, token_of, got, packet_in, verdict_at, pass_after, at_after, applied_pass, is_applied}
 use Rattle.ax_rules.specs.Mirrors.{tree_or, built_by, built_or, built_after, built_of, mirror_of, verdict_of, built_verdict_of}
 use Rattle.ax_rules.specs.Events.{events_of}
@@ -179,10 +179,6 @@ passes_rise front back t good =
     (walk t (got (front ++ back) t) front back [] good (sym (append-nil (got (front ++ back) t))) (stands_after t (got (front ++ back) t) front (got back t) good (got-append front back t))).rises
 
 -- ---- the verdicts of both forests
-
--- the source at a pass sees the packets up to it alone
-source_at-front : (t : ℕ) (xs ys : List Packet) (n : ℕ) → n ≤ length xs → source_at t (xs ++ ys) n ≡ source_at t xs n
-source_at-front t xs ys n h = ap (λ l. edited_all (flat_map (λ (p : Packet). p.slip) l) (empty t)) (take-append-le n xs ys h)
 
 -- where a packet is applied: what it builds, and the last applied pass after it
 record Applies (h : List HEntry) (p : Packet) : Type 0 where

@@ -1,16 +1,17 @@
--- The laws of histories and runs, over all scripts, orders and histories.
-use Rattle.std.specs.Prelude.{ℕ, ◌≡◌, ◌≤◌, ◌==◌, ◌&&◌, true, if◌then◌else◌, List, [], ◌∷◌, ◌++◌, Some, Ok}
+-- The laws of histories and of places, over all of them.
+use Rattle.std.specs.Prelude.{ℕ, ◌≡◌, ◌≤◌, ◌==◌, ◌&&◌, true, if◌then◌else◌, List, [], ◌∷◌, ◌++◌, Ok, is_some}
 use Rattle.ax_tree.specs.declared.packet.Packet.{Packet}
 use Rattle.ax_tree.specs.declared.packet.HEntry.{HEntry}
 use Rattle.ax_tree.specs.declared.packet.HEntry.TheVariants.{Got}
 use Rattle.ax_tree.specs.Tree.{empty}
 use Rattle.ax_tree.specs.Updates.{applied_all}
 use Rattle.ax_tree.specs.Packets.{IsGood}
-use Rattle.ax_ask.specs.declared.op.Item.{Item}
+use Rattle.ax_tree.specs.Forest.{Forest}
+use Rattle.ax_base.specs.declared.position.Place.{Place}
 use Rattle.ax_rules.specs.Histories.{is_gone, token_of, got, verdict_at, applied_pass, is_applied}
+use Rattle.ax_rules.specs.Stitched.{stitched, has_place}
+use Rattle.ax_rules.specs.Extents.{place_extent}
 use Rattle.ax_rules.specs.Mirrors.{mirror_of, built_of, verdict_of, built_verdict_of}
-use Rattle.ax_rules.specs.States.{Run}
-use Rattle.ax_rules.specs.Steps.{run}
 
 -- a list begins with another
 pub record Begins {A : Type 0} (whole front : List A) : Type 0 where
@@ -44,12 +45,6 @@ pub record GoesOn (g h : List HEntry) (t : ℕ) : Type 0 where
 abbrev pub EachHistoryGoesOn : Type 0
 EachHistoryGoesOn = (front back : List HEntry) (t : ℕ) → GoesOn front (front ++ back) t
 
--- Each run of an order goes on from the run of each front of it: so the history at a reader's query begins with that at the one before.
-abbrev pub EachRunGoesOn : Type 0
-EachRunGoesOn =
-    (front back : List Item) (from at to : Run) → run front from ≡ Some at → run (front ++ back) from ≡ Some to
-    → Begins to.state.history at.state.history × Begins to.lines at.lines
-
 -- ---- bundles give the sources
 
 -- Where a tree's received packets are good, what the applied bundles build is the source at the last applied pass.
@@ -65,3 +60,9 @@ pub record Agrees (h : List HEntry) (p : Packet) : Type 0 where
 -- Where the received packets and the next one are good, no update that is in order is refused.
 abbrev pub NoneInOrderIsRefused : Type 0
 NoneInOrderIsRefused = (h : List HEntry) (p : Packet) → IsGood p.tree (got h p.tree ++ p ∷ []) → Agrees h p
+
+-- ---- places
+
+-- Each place of the joined list has an extent, so that bounds are never refused where the place is there.
+abbrev pub EachPlaceHasAnExtent : Type 0
+EachPlaceHasAnExtent = (f : Forest) (p : Place) → has_place (stitched f) p ≡ true → is_some (place_extent f p) ≡ true

@@ -6,8 +6,8 @@ use Rattle.ax_base.specs.declared.position.Pos.{Pos}
 use Rattle.ax_base.specs.declared.position.Unit as position
 use Rattle.ax_base.specs.declared.position.Unit.TheVariants.{Char, Word, Leaf}
 use Rattle.ax_base.specs.TextBounds.{grapheme_bounds, word_starts}
-use Rattle.ax_ask.specs.declared.query.Way.{Way}
-use Rattle.ax_ask.specs.declared.query.Way.TheVariants.{Next, Prev}
+use Rattle.ax_base.specs.declared.position.Way.{Way}
+use Rattle.ax_base.specs.declared.position.Way.TheVariants.{Next, Prev}
 use Rattle.ax_rules.specs.Sequences.{first_of, last_of}
 use Rattle.ax_rules.specs.Looks.{name_text}
 use Rattle.ax_rules.specs.Stitched.{Placed, leaves}

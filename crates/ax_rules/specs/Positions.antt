@@ -7,8 +7,8 @@ use Rattle.ax_base.specs.declared.position.Affinity.{Affinity}
 use Rattle.ax_base.specs.declared.position.Affinity.TheVariants.{Up, Down}
 use Rattle.ax_base.specs.declared.position.Pos.{Pos}
 use Rattle.ax_base.specs.declared.position.Pos.TheVariants.{Null, Tree, Text}
-use Rattle.ax_ask.specs.declared.reply.Reply.{Reply}
-use Rattle.ax_ask.specs.declared.reply.Reply.TheVariants.{NoTree, NoNode, BadIndex, BadOffset}
+use Rattle.ax_base.specs.declared.position.PosErr.{PosErr}
+use Rattle.ax_base.specs.declared.position.PosErr.TheVariants.{NoTree, NoNode, BadIndex, BadOffset}
 use Rattle.ax_tree.specs.Forest.{Forest, live_tree}
 use Rattle.ax_rules.specs.Sequences.{first_of, last_of}
 use Rattle.ax_rules.specs.Looks.{name_text}
@@ -28,20 +28,20 @@ unfoldable pub is_live : Forest → ℕ → Bool
 is_live f t = is_some (live_tree f t)
 
 -- a position before a child, which stands for the end of the texts of the children before it
-unfoldable pub child_mark : List Placed → Place → ℕ → Result Mark Reply
+unfoldable pub child_mark : List Placed → Place → ℕ → Result Mark PosErr
 child_mark l p c =
     let children = children_of l p in
     if nat_lt (length children) c then Err (BadIndex c (length children)) else Ok (mark p (capped (length (flat_map (text_of l) (take c children)))) Down)
 
-unfoldable pub text_mark : List Placed → Place → ℕ → Affinity → Result Mark Reply
+unfoldable pub text_mark : List Placed → Place → ℕ → Affinity → Result Mark PosErr
 text_mark l p o a = if nat_lt (text_len l p) o then Err (BadOffset o (text_len l p)) else Ok (mark p o a)
 
 -- what is refused first: a tree that isn't live, and a place that isn't in the list
-unfoldable pub mark_in : Forest → List Placed → Place → Result Mark Reply → Result Mark Reply
+unfoldable pub mark_in : Forest → List Placed → Place → Result Mark PosErr → Result Mark PosErr
 mark_in f l p m = if not (is_live f p.tree) then Err NoTree else if has_place l p then m else Err NoNode
 
 -- the text position for which a position stands, or its refusal
-unfoldable pub checked : Forest → Pos → Result Mark Reply
+unfoldable pub checked : Forest → Pos → Result Mark PosErr
 checked f Null = Err NoTree
 checked f (Tree t z c) = let l = stitched f in mark_in f l (place_at t z) (child_mark l (place_at t z) c)
 checked f (Text t z o a) = let l = stitched f in mark_in f l (place_at t z) (text_mark l (place_at t z) o a)

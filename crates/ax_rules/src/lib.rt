@@ -1,18 +1,13 @@
-//! The rules above trees, updates and packets, as definitions: verdicts and the forest of a history, the stitched list,
-//! events, hit and focus, positions and bounds, replies, the run of a script with its finale, fair and taken orders,
-//! actions, and the printed text. Their laws are the contracts of functions with empty bodies.
+//! What trees, histories and forests mean, as definitions: verdicts and the forest of a history, the joined list, events,
+//! extents, hit and focus, texts, positions, moves, walks without ignored nodes, and the combined tree. Their laws are the
+//! contracts of functions with empty bodies.
 #![tactic(auto)]
 
-ghost use Rattle.ax_rules.specs.Laws.{EachHistoryGoesOn, EachRunGoesOn, BundlesGiveTheSource, NoneInOrderIsRefused};
+ghost use Rattle.ax_rules.specs.Laws.{EachHistoryGoesOn, BundlesGiveTheSource, NoneInOrderIsRefused, EachPlaceHasAnExtent};
 
 /// Each history goes on from each front of it.
 pub fn each_history_goes_on()
     ensures { EachHistoryGoesOn }
-{}
-
-/// Each run of an order goes on from the run of each front of it, so no reader goes back.
-pub fn each_run_goes_on()
-    ensures { EachRunGoesOn }
 {}
 
 /// Where a tree's received packets are good, the applied bundles build the source at the last applied pass.
@@ -24,4 +19,9 @@ pub fn bundles_give_the_source()
 /// applied is accepted.
 pub fn none_in_order_is_refused()
     ensures { NoneInOrderIsRefused }
+{}
+
+/// Each place of the joined list has an extent.
+pub fn each_place_has_an_extent()
+    ensures { EachPlaceHasAnExtent }
 {}

@@ -24,20 +24,21 @@ use Rattle.ax_ask.specs.declared.op.Item.TheVariants as items
 use Rattle.ax_ask.specs.declared.query.TimedQuery.{TimedQuery}
 use Rattle.ax_rules.specs.Histories.{asks, is_gone, token_of, got, applied_pass}
 use Rattle.ax_rules.specs.Mirrors.{mirror_of}
-use Rattle.ax_rules.specs.Scripts.{Script}
-use Rattle.ax_rules.specs.States.{FrameRun, State, Run, begin, trees_of, frame_now, find_frame, with_frame, without_lines}
-use Rattle.ax_rules.specs.FrameSteps.{packet_now, sent_by, do_op}
-use Rattle.ax_rules.specs.Steps.{next_token, do_ask, do_browser, do_receive, do_deliver, do_query, do_next_query, do_reader, do_oldest, step, run}
-use Rattle.ax_rules.specs.Finale.{ops_left, packets_left, serve, is_behind, pass_of, refresh, refresh_if, catch_up, queries_left, finale_of}
+use Rattle.ax_run_rules.specs.Scripts.{Script}
+use Rattle.ax_run_rules.specs.States.{FrameRun, State, Run, begin, trees_of, frame_now, find_frame, with_frame, without_lines}
+use Rattle.ax_run_rules.specs.FrameSteps.{packet_now, sent_by, do_op}
+use Rattle.ax_run_rules.specs.Steps.{next_token, do_ask, do_browser, do_receive, do_deliver, do_query, do_next_query, do_reader, do_oldest, step, run}
+use Rattle.ax_run_rules.specs.Finale.{ops_left, packets_left, serve, is_behind, pass_of, refresh, refresh_if, catch_up, queries_left, finale_of}
 use Rattle.ax_rules.proofs.Appends.{is_gone-append, got-append, applied_pass-append, frame_of-append}
 use Rattle.ax_rules.proofs.Tokens.{token-append}
 use Rattle.ax_rules.proofs.Building.{Open, pass_then}
-use Rattle.ax_laws.proofs.GoodPackets.{slips, made_frame}
+use Rattle.ax_tree.proofs.GoodFronts.{slips}
+use Rattle.ax_laws.proofs.GoodPackets.{made_frame}
 use Rattle.ax_laws.proofs.FrameSteps.{kept_frame, frame_source}
 use Rattle.ax_laws.proofs.Sent.{bundle_reach}
 use Rattle.ax_run_laws.proofs.Found.{of_tree, replaced, some_same, found_in, other_in, same_in, same_number, each_found}
 use Rattle.ax_run_laws.proofs.Held.{FrameHeld, Held, AllHeld, op_held, browser_op_held, delivery_held, receive_held, run_held, begin_held, got_other}
-use Rattle.ax_run_laws.proofs.Quiet.{AllRun, next, Calm, packets_calm, serve_calm}
+use Rattle.ax_run_laws.proofs.Quiet.{AllRun, next, Calm, AllSendNothing, run_calm, packets_calm, serve_calm}
 
 -- ---- a frame with nothing to send
 
@@ -423,7 +424,7 @@ no_frame u (g ∷ fs) f n e = go (g.tree == u) (λ m k. no_frame u fs f m k) n e
     go true ih m k = true≢false m
     go false ih m k = ih m k
 
-all_catch_up : (u : ℕ) (r : Run) → Calm r → AllRun (CalmUp u) (catch_up (trees_of r.state) r)
+pub all_catch_up : (u : ℕ) (r : Run) → Calm r → AllRun (CalmUp u) (catch_up (trees_of r.state) r)
 all_catch_up u r c = catch_up_due (trees_of r.state) u r (record { calm = c; up = λ n. record { at = λ f e. absurd (no_frame u r.state.frames f n e) } })
 
 -- ---- the queries
@@ -533,3 +534,25 @@ finale_held r h = held_again (finale_of r) (
     (next Calm Calm (λ a. serve a.state.browser a) (λ a c. serve_calm a.state.browser a c) _
     (next HeldRun Calm (λ a. run (packets_left a.state) a) (λ a k. packets_calm a k) _
     (all_held (run (ops_left r.state) r) (run_held (ops_left r.state) r h))))))
+
+-- queries send nothing, so all is received after the finale too
+readers_send_nothing : (o : List Item) → AllReaders o → AllSendNothing o
+readers_send_nothing [] a = tt
+readers_send_nothing (items.Frame t ∷ o) a = absurd a
+readers_send_nothing (items.Receive t ∷ o) a = absurd a
+readers_send_nothing (items.Browser ∷ o) a = absurd a
+readers_send_nothing (items.Deliver t n ∷ o) a = absurd a
+readers_send_nothing (items.Reader k ∷ o) a = (tt, readers_send_nothing o a)
+
+queries_calm : (r : Run) → Calm r → AllRun Calm (run (queries_left r.state) r)
+unfolding queries_left
+queries_calm r c = run_calm _ (readers_send_nothing _ (left_readers (enumerate_from 1 r.state.readers))) r c
+
+pub finale_calm : (r : Run) → HeldRun r → AllRun Calm (finale_of r)
+unfolding finale_of
+finale_calm r h =
+    next Calm Calm (λ a. run (queries_left a.state) a) (λ a c. queries_calm a c) _
+    (next Calm Calm (λ a. catch_up (trees_of a.state) a) (λ a c. calm_catch_up a c) _
+    (next Calm Calm (λ a. serve a.state.browser a) (λ a c. serve_calm a.state.browser a c) _
+    (next HeldRun Calm (λ a. run (packets_left a.state) a) (λ a k. packets_calm a k) _
+    (all_held (run (ops_left r.state) r) (run_held (ops_left r.state) r h)))))

@@ -8,10 +8,10 @@ use Rattle.ax_ask.specs.declared.op.TimedOp.{TimedOp}
 use Rattle.ax_ask.specs.declared.op.Item.{Item}
 use Rattle.ax_ask.specs.declared.op.Item.TheVariants as items
 use Rattle.ax_rules.specs.Histories.{is_gone}
-use Rattle.ax_rules.specs.States.{FrameRun, State, Run, find_frame, with_frame}
-use Rattle.ax_rules.specs.FrameSteps.{do_op}
-use Rattle.ax_rules.specs.Steps.{next_token, do_ask, do_browser, do_deliver, do_next_op, do_next_browser, step, run}
-use Rattle.ax_rules.specs.Finale.{ops_left, delivery_of, serve}
+use Rattle.ax_run_rules.specs.States.{FrameRun, State, Run, find_frame, with_frame}
+use Rattle.ax_run_rules.specs.FrameSteps.{do_op}
+use Rattle.ax_run_rules.specs.Steps.{next_token, do_ask, do_browser, do_deliver, do_next_op, do_next_browser, step, run}
+use Rattle.ax_run_rules.specs.Finale.{ops_left, delivery_of, serve}
 use Rattle.ax_run_laws.proofs.Found.{of_tree, replaced, found_in, other_in, same_in}
 use Rattle.ax_run_laws.proofs.Quiet.{AllRun, next}
 

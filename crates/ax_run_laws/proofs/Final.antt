@@ -14,11 +14,11 @@ use Rattle.ax_ask.specs.declared.op.TimedOp.{TimedOp}
 use Rattle.ax_ask.specs.declared.op.Item.{Item}
 use Rattle.ax_rules.specs.Histories.{is_gone, got, applied_pass}
 use Rattle.ax_rules.specs.Mirrors.{mirror_of, standing, forest_of}
-use Rattle.ax_rules.specs.Scripts.{Script, FrameScript}
-use Rattle.ax_rules.specs.States.{FrameRun, Run, start, begin, trees_of, forest_now, without_lines}
-use Rattle.ax_rules.specs.FrameSteps.{entry_of}
-use Rattle.ax_rules.specs.Steps.{run}
-use Rattle.ax_rules.specs.Finale.{ops_left, packets_left, serve, catch_up, queries_left, finale_of}
+use Rattle.ax_run_rules.specs.Scripts.{Script, FrameScript}
+use Rattle.ax_run_rules.specs.States.{FrameRun, Run, start, begin, trees_of, forest_now, without_lines}
+use Rattle.ax_run_rules.specs.FrameSteps.{entry_of}
+use Rattle.ax_run_rules.specs.Steps.{run}
+use Rattle.ax_run_rules.specs.Finale.{ops_left, packets_left, serve, catch_up, queries_left, finale_of}
 use Rattle.ax_run_laws.specs.Laws.{is_destroyed, tree_left, forest_left}
 use Rattle.ax_run_laws.proofs.Found.{of_tree, some_same, same_number}
 use Rattle.ax_run_laws.proofs.Held.{FrameHeld, Held, AllHeld, begin_held, run_held}
@@ -30,13 +30,13 @@ use Rattle.ax_run_laws.proofs.Rooted.{no_packets, source_of-append}
 
 -- ---- what the operations that are left will make of the source
 
-abbrev Ahead : (ℕ → Tree) → ℕ → FrameRun → Type 0
+abbrev pub Ahead : (ℕ → Tree) → ℕ → FrameRun → Type 0
 Ahead G t f = source_from (map entry_of f.left) (source_of t f.journal) ≡ G t
 
-abbrev AnyList : List TimedOp → Type 0
+abbrev pub AnyList : List TimedOp → Type 0
 AnyList os = Unit {0}
 
-abbrev NoList : List TimedOp → Type 0
+abbrev pub NoList : List TimedOp → Type 0
 NoList os = os ≡ []
 
 ahead_keeps : (G : ℕ → Tree) → Keeps (Ahead G) AnyList
@@ -50,7 +50,7 @@ ahead_keeps G = record {
 }
 
 -- all is done, and this is the source
-abbrev Arrived : (ℕ → Tree) → ℕ → FrameRun → Type 0
+abbrev pub Arrived : (ℕ → Tree) → ℕ → FrameRun → Type 0
 Arrived G t f = (f.left ≡ []) × (source_of t f.journal ≡ G t)
 
 none_there : {A : Type 0} (x : A) (xs ys : List A) → ys ≡ [] → ys ≡ x ∷ xs → ⊥
@@ -74,13 +74,13 @@ together P Q R h None p q = tt
 together P Q R h (Some r) p q = h r p q
 
 module _ (G : ℕ → Tree) (d : ℕ → Bool) (ts : List ℕ) where
-  abbrev Going : Run → Type 0
+  abbrev pub Going : Run → Type 0
   Going r = Kept (Ahead G) AnyList d ts r
 
   abbrev Come : Run → Type 0
   Come r = Kept (Arrived G) AnyList d ts r
 
-  abbrev Ended : Run → Type 0
+  abbrev pub Ended : Run → Type 0
   Ended r = Kept (Arrived G) NoList d ts r
 
   come : (r : Run) → Going r → AllDone r → Come r
@@ -169,7 +169,7 @@ each_first (f ∷ fs) n =
     (ap (λ c. if c then Some f else find (scripted f.tree) fs) (same_number f.tree), not_first f fs fs n.0 (each_first fs n.1))
 
 -- a tree of the list has a frame there
-has_frame : (t : ℕ) (fs : List FrameRun) → contains (map (λ (f : FrameRun). f.tree) fs) t ≡ true → (f : FrameRun) × (find (of_tree t) fs ≡ Some f)
+pub has_frame : (t : ℕ) (fs : List FrameRun) → contains (map (λ (f : FrameRun). f.tree) fs) t ≡ true → (f : FrameRun) × (find (of_tree t) fs ≡ Some f)
 has_frame t [] h = absurd (true≢false (sym h))
 has_frame t (g ∷ fs) h = go (g.tree == t) (λ k. has_frame t fs k) h
   where
@@ -188,34 +188,38 @@ each_in back (f ∷ fs) h =
     later true b k = refl
     later false b k = k
 
-nothing_got : (h : List HEntry) (t : ℕ) (f : FrameRun) → FrameHeld h t f → is_bare (source_of t f.journal).trees ≡ true → got h t ≡ []
+pub nothing_got : (h : List HEntry) (t : ℕ) (f : FrameRun) → FrameHeld h t f → is_bare (source_of t f.journal).trees ≡ true → got h t ≡ []
 nothing_got h t f held n = front_none (got h t) f.waiting (held.packets ∙ no_packets t f.journal n)
   where
     front_none : (xs ys : List Packet) → xs ++ ys ≡ [] → xs ≡ []
     front_none [] ys e = refl
     front_none (x ∷ xs) ys e = absurd (cc)
 
-none_applied : (t : ℕ) (ps : List Packet) (n : ℕ) → ps ≡ [] → source_at t ps n ≡ empty t
+pub none_applied : (t : ℕ) (ps : List Packet) (n : ℕ) → ps ≡ [] → source_at t ps n ≡ empty t
 none_applied t ps n e = ap (λ l. source_at t l n) e ∙ of_none n
   where
     of_none : (m : ℕ) → source_at t [] m ≡ empty t
     of_none zero = refl
     of_none (suc m) = refl
 
--- the mirror of a tree that hasn't ended
+-- the mirror of a tree that hasn't ended, where this is the source
+pub mirror_is : (h : List HEntry) (t : ℕ) (f : FrameRun) (s : Tree) → FrameHeld h t f → CaughtUp h t f → is_gone h t ≡ false → source_of t f.journal ≡ s
+    → mirror_of h t ≡ (if is_bare s.trees then empty t else s)
+unfolding mirror_of
+mirror_is h t f s held up gone same = go (is_bare s.trees) refl
+  where
+    go : (b : Bool) → is_bare s.trees ≡ b → source_at t (got h t) (applied_pass h t) ≡ (if b then empty t else s)
+    go true e = none_applied t (got h t) (applied_pass h t) (nothing_got h t f held (ap (λ (x : Tree). is_bare x.trees) same ∙ e))
+    go false e = mirror_same h t f up gone (ap (λ (x : Tree). is_bare x.trees) same ∙ e) ∙ same
+
 mirror_left : (h : List HEntry) (t : ℕ) (f : FrameRun) (os : List FrameOp) → FrameHeld h t f → CaughtUp h t f → is_gone h t ≡ false → source_of t f.journal ≡ source_of t (map entry_of os)
     → mirror_of h t ≡ tree_left t os
-unfolding mirror_of
-mirror_left h t f os held up gone same = go (is_bare (source_of t (map entry_of os)).trees) refl
-  where
-    go : (b : Bool) → is_bare (source_of t (map entry_of os)).trees ≡ b → source_at t (got h t) (applied_pass h t) ≡ (if b then empty t else source_of t (map entry_of os))
-    go true e = none_applied t (got h t) (applied_pass h t) (nothing_got h t f held (ap (λ (s : Tree). is_bare s.trees) same ∙ e))
-    go false e = mirror_same h t f up gone (ap (λ (s : Tree). is_bare s.trees) same ∙ e) ∙ same
+mirror_left h t f os held up gone same = mirror_is h t f (source_of t (map entry_of os)) held up gone same
 
 abbrev one_left : Script → FrameScript → Standing
 one_left s f = record { id = f.tree; tree = if is_destroyed s.browser f.tree then None else Some (tree_left f.tree f.ops) }
 
-standing_left : (h : List HEntry) (t : ℕ) (d : Bool) (m l : Tree) → is_gone h t ≡ d → (d ≡ false → m ≡ l)
+pub standing_left : (h : List HEntry) (t : ℕ) (d : Bool) (m l : Tree) → is_gone h t ≡ d → (d ≡ false → m ≡ l)
     → (if is_gone h t then None else Some m) ≡ (if d then None else Some l)
 standing_left h t true m l e k = rw e refl
 standing_left h t false m l e k = rw e (ap (λ x. Some x) (k refl))
@@ -225,7 +229,7 @@ all_standing : (h : List HEntry) (s : Script) (fs : List FrameScript) → Here (
 all_standing h s [] k = refl
 all_standing h s (f ∷ fs) k = ap (λ x. x ∷ map (standing h (mirror_of h)) (map (λ (g : FrameScript). g.tree) fs)) k.0 ∙ ap (λ l. one_left s f ∷ l) (all_standing h s fs k.1)
 
-no_more : (g : Bool) (os : List TimedOp) (t : ℕ) (d : Bool) → os ≡ [] → (g || is_destroyed os t) ≡ d → g ≡ d
+pub no_more : (g : Bool) (os : List TimedOp) (t : ℕ) (d : Bool) → os ≡ [] → (g || is_destroyed os t) ≡ d → g ≡ d
 no_more true os t d e h = h
 no_more false os t d e h = ap (λ l. is_destroyed l t) (sym e) ∙ h
 

@@ -1,7 +1,7 @@
 -- Frames found by their trees in a list, before and after one of them is replaced.
 use Rattle.std.proofs.Common.{ℕ, ◌≡◌, ◌==◌, Bool, true, false, if◌then◌else◌, List, [], ◌∷◌, map, find, sym, refl, ap, ◌∙◌, subst, Some, arith}
 use Rattle.std.proofs.lemmas.Bool.{eqb-true}
-use Rattle.ax_rules.specs.States.{FrameRun}
+use Rattle.ax_run_rules.specs.States.{FrameRun}
 
 abbrev pub of_tree : ℕ → FrameRun → Bool
 of_tree t f = f.tree == t

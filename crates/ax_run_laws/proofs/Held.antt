@@ -17,12 +17,13 @@ use Rattle.ax_ask.specs.declared.op.Item.{Item}
 use Rattle.ax_ask.specs.declared.op.Item.TheVariants as items
 use Rattle.ax_ask.specs.declared.query.TimedQuery.{TimedQuery}
 use Rattle.ax_rules.specs.Histories.{got}
-use Rattle.ax_rules.specs.Scripts.{Script, FrameScript}
-use Rattle.ax_rules.specs.States.{FrameRun, Run, start, begin, frame_now, find_frame, with_frame}
-use Rattle.ax_rules.specs.FrameSteps.{entry_of, packet_now, sent_by, do_op}
-use Rattle.ax_rules.specs.Steps.{do_receive, do_ask, do_browser, do_deliver, do_query, do_next_op, do_oldest, do_next_browser, do_next_query, do_reader, step, run}
+use Rattle.ax_run_rules.specs.Scripts.{Script, FrameScript}
+use Rattle.ax_run_rules.specs.States.{FrameRun, Run, start, begin, frame_now, find_frame, with_frame}
+use Rattle.ax_run_rules.specs.FrameSteps.{entry_of, packet_now, sent_by, do_op}
+use Rattle.ax_run_rules.specs.Steps.{do_receive, do_ask, do_browser, do_deliver, do_query, do_next_op, do_oldest, do_next_browser, do_next_query, do_reader, step, run}
 use Rattle.ax_rules.proofs.Appends.{got-append}
-use Rattle.ax_laws.proofs.GoodPackets.{packets_push, packets_fit, good_front}
+use Rattle.ax_tree.proofs.GoodFronts.{good_front}
+use Rattle.ax_laws.proofs.GoodPackets.{packets_push, packets_fit}
 use Rattle.ax_rules.specs.Laws.{Agrees}
 use Rattle.ax_rules.proofs.Building.{verdicts_agree, applied_accepted}
 use Rattle.ax_run_laws.specs.Laws.{HasItsPackets}

@@ -14,10 +14,10 @@ use Rattle.ax_ask.specs.declared.op.Item.{Item}
 use Rattle.ax_ask.specs.declared.op.Item.TheVariants as items
 use Rattle.ax_ask.specs.declared.query.TimedQuery.{TimedQuery}
 use Rattle.ax_rules.specs.Histories.{is_gone, ends}
-use Rattle.ax_rules.specs.States.{FrameRun, Run, trees_of, find_frame, with_frame}
-use Rattle.ax_rules.specs.FrameSteps.{entry_of, do_op}
-use Rattle.ax_rules.specs.Steps.{next_token, do_receive, do_ask, do_browser, do_deliver, do_query, do_next_op, do_oldest, do_next_browser, do_next_query, do_reader, step, run}
-use Rattle.ax_rules.specs.Finale.{delivery_of, serve, is_behind, pass_of, refresh, refresh_if, catch_up}
+use Rattle.ax_run_rules.specs.States.{FrameRun, Run, trees_of, find_frame, with_frame}
+use Rattle.ax_run_rules.specs.FrameSteps.{entry_of, do_op}
+use Rattle.ax_run_rules.specs.Steps.{next_token, do_receive, do_ask, do_browser, do_deliver, do_query, do_next_op, do_oldest, do_next_browser, do_next_query, do_reader, step, run}
+use Rattle.ax_run_rules.specs.Finale.{delivery_of, serve, is_behind, pass_of, refresh, refresh_if, catch_up}
 use Rattle.ax_rules.proofs.Appends.{is_gone-append}
 use Rattle.ax_run_laws.specs.Laws.{destroys, is_destroyed}
 use Rattle.ax_run_laws.proofs.Found.{of_tree, replaced, found_in, each_found}

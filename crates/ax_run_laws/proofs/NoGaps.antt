@@ -1,4 +1,4 @@
--- In a run where each delivered token was asked for before, no receipt is a gap.
+-- What a run keeps where each delivered token was asked for before, from any state: then no receipt is a gap.
 use Rattle.std.proofs.Common.{ℕ, zero, suc, ◌+◌, ◌≡◌, ◌≤◌, ◌==◌, inl, inr, Bool, true, false, not, ◌||◌, cond, List, [], ◌∷◌, ◌++◌, find, refl, sym, ap, ◌∙◌, subst, Option, Some, None, arith, append-nil, true≢false, option_and_then, option_map, slice_get}
 use Rattle.std.proofs.lemmas.Bool.{eqb-true}
 use Rattle.std.proofs.lemmas.List.Folds.{list_any-append}
@@ -27,10 +27,10 @@ use Rattle.ax_ask.specs.declared.line.Line.{Line}
 use Rattle.ax_rules.specs.Histories.{is_gone, token_of, got, applied_pass, verdict_at, ends}
 use Rattle.ax_rules.specs.Mirrors.{mirror_of, verdict_of}
 use Rattle.ax_rules.specs.Events.{events_of}
-use Rattle.ax_rules.specs.Scripts.{Script}
-use Rattle.ax_rules.specs.States.{FrameRun, Run, start, begin, frame_now, find_frame, with_frame}
-use Rattle.ax_rules.specs.FrameSteps.{entry_of, edit_line, op_line, do_op}
-use Rattle.ax_rules.specs.Steps.{do_receive, do_ask, do_browser, do_deliver, do_query, do_next_op, do_oldest, do_next_browser, do_next_query, do_reader, step, run}
+use Rattle.ax_run_rules.specs.Scripts.{Script}
+use Rattle.ax_run_rules.specs.States.{FrameRun, Run, start, begin, frame_now, find_frame, with_frame}
+use Rattle.ax_run_rules.specs.FrameSteps.{entry_of, edit_line, op_line, do_op}
+use Rattle.ax_run_rules.specs.Steps.{do_receive, do_ask, do_browser, do_deliver, do_query, do_next_op, do_oldest, do_next_browser, do_next_query, do_reader, step, run}
 use Rattle.ax_rules.proofs.Appends.{is_gone-append, got-append, applied_pass-append}
 use Rattle.ax_rules.proofs.Tokens.{token-append}
 use Rattle.ax_rules.proofs.Going.{token_on}
@@ -42,13 +42,13 @@ use Rattle.ax_run_laws.proofs.Quiet.{AllRun}
 use Rattle.ax_run_laws.proofs.Gaps.{Link, LinkedFrom, final, linked_at, final-push, linked, LowEntry, LowEntries, LowPackets, low_push, higher, low_made, low_final}
 
 -- where the tree is live and the last packet has its token, that packet was applied
-abbrev Last : List HEntry → ℕ → Option Packet → Type 0
+abbrev pub Last : List HEntry → ℕ → Option Packet → Type 0
 Last h t None = Unit {0}
 Last h t (Some q) = is_gone h t ≡ false → q.token.0 ≡ token_of h t → applied_pass h t ≡ q.pass.0
 
-record Chained (h : List HEntry) (t : ℕ) (f : FrameRun) : Type 0 where
-  low : LowEntries (token_of h t) f.journal
-  last : Last h t (final None (got h t))
+pub record Chained (h : List HEntry) (t : ℕ) (f : FrameRun) : Type 0 where
+  pub low : LowEntries (token_of h t) f.journal
+  pub last : Last h t (final None (got h t))
 
 -- the last received packet has no token that wasn't asked for
 last_low : (h : List HEntry) (t : ℕ) (f : FrameRun) → FrameHeld h t f → LowEntries (token_of h t) f.journal → (x : Packet) → final None (got h t) ≡ Some x → x.token.0 ≤ token_of h t
@@ -82,17 +82,17 @@ chained_on h e u f held none same c = record {
 no_gap_push : (ls : List Line) (l : Line) → list_any is_gap ls ≡ false → is_gap l ≡ false → list_any is_gap (ls ++ l ∷ []) ≡ false
 no_gap_push ls l h k = list_any-append is_gap ls (l ∷ []) ∙ rw (h, k) refl
 
-record Sound (r : Run) : Type 0 where
-  held : Held r.state.frames r.state.history
-  chained : (t : ℕ) (f : FrameRun) → find (of_tree t) r.state.frames ≡ Some f → Chained r.state.history t f
-  lines : list_any is_gap r.lines ≡ false
+pub record Sound (r : Run) : Type 0 where
+  pub held : Held r.state.frames r.state.history
+  pub chained : (t : ℕ) (f : FrameRun) → find (of_tree t) r.state.frames ≡ Some f → Chained r.state.history t f
+  pub lines : list_any is_gap r.lines ≡ false
 
 -- all but what `step_held` says
-record Quietly (r : Run) : Type 0 where
-  chained : (t : ℕ) (f : FrameRun) → find (of_tree t) r.state.frames ≡ Some f → Chained r.state.history t f
-  lines : list_any is_gap r.lines ≡ false
+pub record Quietly (r : Run) : Type 0 where
+  pub chained : (t : ℕ) (f : FrameRun) → find (of_tree t) r.state.frames ≡ Some f → Chained r.state.history t f
+  pub lines : list_any is_gap r.lines ≡ false
 
-both_sound : (o : Option Run) → AllHeld o → AllRun Quietly o → AllRun Sound o
+pub both_sound : (o : Option Run) → AllHeld o → AllRun Quietly o → AllRun Sound o
 both_sound None h q = tt
 both_sound (Some r) h q = record { held = h; chained = q.chained; lines = q.lines }
 
@@ -123,7 +123,7 @@ op_no_gap t f ops.Pass = refl
 there : (t : ℕ) (fs : List FrameRun) (f : FrameRun) → find (of_tree t) fs ≡ Some f → find (of_tree f.tree) fs ≡ Some f
 there t fs f e = ap (λ u. find (of_tree u) fs) (found_in t fs f e) ∙ e
 
-op_sound : (r : Run) (f : FrameRun) (os : List FrameOp) → find (of_tree f.tree) r.state.frames ≡ Some f → Sound r → AllRun Quietly (do_next_op r f os)
+pub op_sound : (r : Run) (f : FrameRun) (os : List FrameOp) → find (of_tree f.tree) r.state.frames ≡ Some f → Sound r → AllRun Quietly (do_next_op r f os)
 unfolding do_op with_frame
 op_sound r f [] e k = tt
 op_sound r f (o ∷ left) e k =
@@ -229,7 +229,7 @@ receipt_sound r f (p ∷ ps) w e k =
 
 -- ---- the browser and readers
 
-browser_op_sound : (r : Run) (o : BrowserOp) → Sound r → Quietly (do_browser r o)
+pub browser_op_sound : (r : Run) (o : BrowserOp) → Sound r → Quietly (do_browser r o)
 unfolding do_browser do_ask got
 browser_op_sound r (browsers.Ask t) k = record {
   chained = λ u f q. chained_on r.state.history (Asked t) u f (k.held.at u f q) refl (applied_pass-append r.state.history (Asked t) u) (k.chained u f q);
@@ -288,7 +288,7 @@ then_sound : (o : List Item) (q : Option Run) → AllRun Sound q → ((r : Run) 
 then_sound o None k h = tt
 then_sound o (Some r) k h = h r refl k
 
-run_sound : (o : List Item) (r : Run) → TokensAsked o r → Sound r → AllRun Sound (run o r)
+pub run_sound : (o : List Item) (r : Run) → TokensAsked o r → Sound r → AllRun Sound (run o r)
 run_sound [] r a k = k
 run_sound (i ∷ o) r a k = then_sound o (step r i) (step_sound r i a.0 k) (λ q e x. run_sound o q (a.1 q e) x)
 

@@ -9,9 +9,9 @@ use Rattle.ax_ask.specs.declared.op.Item.{Item}
 use Rattle.ax_ask.specs.declared.op.Item.TheVariants as items
 use Rattle.ax_ask.specs.declared.query.TimedQuery.{TimedQuery}
 use Rattle.ax_rules.specs.Histories.{is_gone}
-use Rattle.ax_rules.specs.States.{FrameRun, State, Run, find_frame, with_frame}
-use Rattle.ax_rules.specs.Steps.{next_token, do_receive, do_ask, do_browser, do_deliver, do_query, do_oldest, do_next_browser, do_next_query, do_reader, step, run}
-use Rattle.ax_rules.specs.Finale.{packets_left, delivery_of, serve}
+use Rattle.ax_run_rules.specs.States.{FrameRun, State, Run, find_frame, with_frame}
+use Rattle.ax_run_rules.specs.Steps.{next_token, do_receive, do_ask, do_browser, do_deliver, do_query, do_oldest, do_next_browser, do_next_query, do_reader, step, run}
+use Rattle.ax_run_rules.specs.Finale.{packets_left, delivery_of, serve}
 use Rattle.ax_run_laws.proofs.Found.{of_tree, replaced, found_in, other_in, same_in, each_found}
 use Rattle.ax_run_laws.proofs.Held.{Held, AllHeld, step_held, run_held}
 

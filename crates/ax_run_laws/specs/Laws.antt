@@ -21,11 +21,11 @@ use Rattle.ax_rules.specs.Histories.{is_gone, token_of, got}
 use Rattle.ax_rules.specs.Mirrors.{mirror_of}
 use Rattle.ax_tree.specs.declared.packet.Packet.{Packet}
 use Rattle.ax_rules.specs.Laws.{Agrees}
-use Rattle.ax_rules.specs.Scripts.{Script, FrameScript}
-use Rattle.ax_rules.specs.FrameSteps.{entry_of}
-use Rattle.ax_rules.specs.States.{FrameRun, Run, begin, find_frame, forest_now, without_lines}
-use Rattle.ax_rules.specs.Steps.{step, run}
-use Rattle.ax_rules.specs.Finale.{finale_of}
+use Rattle.ax_run_rules.specs.Scripts.{Script, FrameScript}
+use Rattle.ax_run_rules.specs.FrameSteps.{entry_of}
+use Rattle.ax_run_rules.specs.States.{FrameRun, Run, begin, find_frame, forest_now, without_lines}
+use Rattle.ax_run_rules.specs.Steps.{step, run}
+use Rattle.ax_run_rules.specs.Finale.{finale_of}
 
 -- the browser operation destroys the tree t
 abbrev pub destroys : ℕ → BrowserOp → Bool

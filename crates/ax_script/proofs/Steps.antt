@@ -1,5 +1,5 @@
 -- How the trees of frames are gathered, and what bytes read as.
-pub use Rattle.ax_walk.proofs.Walks.{under_gives}
+pub use Rattle.ax_json.proofs.Walks.{under_gives}
 use Rattle.std.proofs.Common.{◌≡◌, ◌≤◌, ◌⊎◌, inl, inr, ℕ, zero, suc, List, [], ◌∷◌, ◌++◌, drop, append_assoc, append-nil, refl, ap, sym, ◌∙◌, arith, nat_lt, string_bytes, IfSome, Err, Bool, true, false, ◌||◌, cond, length, Some, None}
 use Rattle.std.proofs.Math.Path.{fun_ext}
 use Rattle.std.proofs.lemmas.Bool.{le-ltb}
@@ -14,9 +14,9 @@ use Rattle.serde_json.specs.Events.{items_len}
 use Rattle.serde_json.specs.Read.{read}
 use Rattle.serde_json.specs.View.{items_view}
 use Rattle.serde_json.specs.declared.value.Value.{Value}
-use Rattle.ax_walk.specs.declared.refusal.WalkErr.{WalkErr}
-use Rattle.ax_walk.specs.declared.refusal.WalkErr.TheVariants.{Refused, NoMemory as OutOfMemory}
-use Rattle.ax_walk.specs.Refused.{Refusal, refusal_of}
+use Rattle.ax_json.specs.declared.refusal.WalkErr.{WalkErr}
+use Rattle.ax_json.specs.declared.refusal.WalkErr.TheVariants.{Refused, NoMemory as OutOfMemory}
+use Rattle.ax_json.specs.Refused.{Refusal, refusal_of}
 use Rattle.ax_script.specs.declared.error.ScriptErr.{ScriptErr}
 use Rattle.ax_script.specs.declared.error.ScriptErr.TheVariants.{NoMemory}
 use Rattle.ax_script.specs.declared.script.FrameScript.{FrameScript}

@@ -1,33 +1,30 @@
 -- The operations of the browser, and actions: both are at trees that a frame has.
-use Rattle.std.specs.Prelude.{ℕ, List, [], ◌∷◌, Bool, codes, if◌then◌else◌, Option, Some, None, Result, Ok, bytes_eq}
+use Rattle.std.specs.Prelude.{ℕ, [], ◌∷◌, Bool, codes, if◌then◌else◌, Option, Result, Ok}
 use Rattle.serde_json.specs.Data.{Data}
 use Rattle.serde_json.specs.Find.{get}
 use Rattle.ax_attrs.specs.declared.table.Version.{Version}
 use Rattle.ax_base.specs.declared.position.Place.{Place}
 use Rattle.ax_ask.specs.declared.op.BrowserOp.TheVariants as ops
+use Rattle.ax_ask.specs.declared.op.BrowserOpName.{BrowserOpName}
+use Rattle.ax_ask.specs.declared.op.BrowserOpName.TheVariants.{Ask, Destroy, Probe}
+use Rattle.ax_ask.specs.Words.{browser_op_named, do_named}
 use Rattle.ax_ask.specs.declared.op.TimedOp.{TimedOp}
 use Rattle.ax_ask.specs.declared.action.Action.{Action}
 use Rattle.ax_ask.specs.declared.action.DoName.{DoName}
 use Rattle.ax_ask.specs.declared.action.DoName.TheVariants as does
 use Rattle.ax_ask.specs.declared.action.What.{What}
 use Rattle.ax_ask.specs.declared.action.What.TheVariants as whats
-use Rattle.ax_walk.specs.declared.refusal.Fault.TheVariants.{BadNumber, BadName}
-use Rattle.ax_walk.specs.Refused.{Refusal, ◌>>=◌, within}
-use Rattle.ax_walk.specs.Walk.{refused, present, dot, known, required, tag_of, tree_id, node_id, text_of}
-use Rattle.ax_shapes.specs.Queries.{after_of}
-use Rattle.ax_shapes.specs.Updates.{update_of}
-use Rattle.ax_script.specs.declared.browser.BrowserName.{BrowserName}
-use Rattle.ax_script.specs.declared.browser.BrowserName.TheVariants.{Ask, Destroy, Probe}
+use Rattle.ax_json.specs.declared.refusal.Fault.TheVariants.{BadNumber, BadName}
+use Rattle.ax_json.specs.Refused.{Refusal, ◌>>=◌, within}
+use Rattle.ax_json.specs.Walk.{refused, present, dot, known, required, tag_of, tree_id, node_id, text_of}
+use Rattle.ax_forms.specs.Queries.{after_of}
+use Rattle.ax_forms.specs.Updates.{update_of}
 
 -- the member `tree`, which a frame has to have
 unfoldable pub known_tree : (ℕ → Bool) → Option Data → Result ℕ Refusal
 known_tree knows found = do
   tree ← required tree_id (codes "tree") found
   if knows tree then Ok tree else refused BadNumber (dot (codes "tree"))
-
-abbrev pub browser_name : List ℕ → Option BrowserName
-browser_name name =
-    if bytes_eq name (codes "ask") then Some Ask else (if bytes_eq name (codes "destroy") then Some Destroy else (if bytes_eq name (codes "probe") then Some Probe else None))
 
 unfoldable pub ask_op : (ℕ → Bool) → Data → Result TimedOp Refusal
 ask_op knows d = do
@@ -51,7 +48,7 @@ probe_op version knows d = do
   update ← required (update_of version tree) (codes "update") (get (codes "update") d)
   Ok (record { after = after; op = ops.Probe tree update })
 
-unfoldable pub browser_as : Version → (ℕ → Bool) → BrowserName → Data → Result TimedOp Refusal
+unfoldable pub browser_as : Version → (ℕ → Bool) → BrowserOpName → Data → Result TimedOp Refusal
 browser_as version knows Ask d = ask_op knows d
 browser_as version knows Destroy d = destroy_op knows d
 browser_as version knows Probe d = probe_op version knows d
@@ -59,14 +56,10 @@ browser_as version knows Probe d = probe_op version knows d
 unfoldable pub browser_op : Version → (ℕ → Bool) → Data → Result TimedOp Refusal
 browser_op version knows d = do
   name ← tag_of (codes "op") d
-  which ← within (dot (codes "op")) (present BadName (browser_name name))
+  which ← within (dot (codes "op")) (present BadName (browser_op_named name))
   browser_as version knows which d
 
 -- ---- actions
-
-abbrev pub do_name : List ℕ → Option DoName
-do_name name =
-    if bytes_eq name (codes "focus") then Some does.Focus else (if bytes_eq name (codes "set_value") then Some does.SetValue else (if bytes_eq name (codes "scroll") then Some does.Scroll else None))
 
 -- where an action that says no more is done
 unfoldable pub place_acted : (ℕ → Bool) → Data → Result Place Refusal
@@ -95,5 +88,5 @@ action_as knows does.Scroll d = place_acted knows d >>= λ p. Ok (acts whats.Scr
 unfoldable pub action_of : (ℕ → Bool) → Data → Result Action Refusal
 action_of knows d = do
   name ← tag_of (codes "do") d
-  which ← within (dot (codes "do")) (present BadName (do_name name))
+  which ← within (dot (codes "do")) (present BadName (do_named name))
   action_as knows which d

@@ -4,8 +4,8 @@ use Rattle.serde_json.specs.Data.{Data}
 use Rattle.serde_json.specs.Find.{get, as_number, as_u64}
 use Rattle.ax_attrs.specs.declared.table.Version.{Version}
 use Rattle.ax_attrs.specs.declared.table.Version.TheVariants.{One, Two}
-use Rattle.ax_walk.specs.Refused.{Refusal, ◌>>=◌}
-use Rattle.ax_walk.specs.Walk.{number_in, list_of, str_of, known, required, optional}
+use Rattle.ax_json.specs.Refused.{Refusal, ◌>>=◌}
+use Rattle.ax_json.specs.Walk.{number_in, list_of, str_of, known, required, optional}
 use Rattle.ax_script.specs.declared.draft.Draft.{Draft}
 use Rattle.ax_script.specs.Trees.{has_tree}
 use Rattle.ax_script.specs.Frames.{frames_of}

@@ -4,10 +4,10 @@ use Rattle.serde_json.specs.Data.{Data, Items, no_items, item}
 use Rattle.serde_json.specs.Events.{items_len}
 use Rattle.serde_json.specs.Find.{get}
 use Rattle.ax_attrs.specs.declared.table.Version.{Version}
-use Rattle.ax_walk.specs.declared.refusal.Fault.TheVariants.{BadCount, BadNumber}
-use Rattle.ax_walk.specs.Refused.{Refusal, ◌>>=◌, within}
-use Rattle.ax_walk.specs.Walk.{refused, dot, place, array_of, list_of, known, required, tree_id}
-use Rattle.ax_shapes.specs.Edits.{op_of}
+use Rattle.ax_json.specs.declared.refusal.Fault.TheVariants.{BadCount, BadNumber}
+use Rattle.ax_json.specs.Refused.{Refusal, ◌>>=◌, within}
+use Rattle.ax_json.specs.Walk.{refused, dot, place, array_of, list_of, known, required, tree_id}
+use Rattle.ax_forms.specs.Edits.{op_of}
 use Rattle.ax_script.specs.declared.script.FrameScript.{FrameScript}
 use Rattle.ax_script.specs.Trees.{has_tree}
 

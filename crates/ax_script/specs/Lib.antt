@@ -5,3 +5,5 @@ pub mod Readers
 pub mod Order
 pub mod Drafts
 pub mod Script
+pub mod ErrorText
+pub mod Sound

@@ -4,9 +4,9 @@ use Rattle.std.specs.Str.{chars, is_utf8}
 use Rattle.serde_json.specs.Data.{Data}
 use Rattle.serde_json.specs.Read.{read}
 use Rattle.ax_ask.specs.declared.op.Item.{Item}
-use Rattle.ax_walk.specs.declared.refusal.Fault.{Fault}
-use Rattle.ax_walk.specs.declared.refusal.Fault.TheVariants as faults
-use Rattle.ax_walk.specs.Refused.{Refusal}
+use Rattle.ax_json.specs.declared.refusal.Fault.{Fault}
+use Rattle.ax_json.specs.declared.refusal.Fault.TheVariants as faults
+use Rattle.ax_json.specs.Refused.{Refusal}
 use Rattle.ax_script.specs.declared.draft.Draft.{Draft}
 use Rattle.ax_script.specs.declared.error.ScriptErr.{ScriptErr}
 use Rattle.ax_script.specs.declared.error.ScriptErr.TheVariants.{TooBig, NotJson, UnknownMember, Missing, BadType, BadCount, BadNumber, BadName, TooManyOps, BadOrder, NoMemory}

@@ -2,33 +2,19 @@
 ghost use Rattle.std.specs.Prelude.{◌≡◌, Result};
 ghost use Rattle.serde_json.specs.Data.{Data};
 ghost use Rattle.serde_json.specs.View.{view};
-ghost use Rattle.ax_walk.specs.Refused.{Refusal, Gives};
-ghost use Rattle.ax_script.specs.Browser.{action_as, action_of, do_name, place_acted, set_value};
+ghost use Rattle.ax_json.specs.Refused.{Refusal, Gives};
+ghost use Rattle.ax_script.specs.Browser.{action_as, action_of, place_acted, set_value};
 ghost use Rattle.ax_script.specs.Trees.{knows};
 
 use crate::browser::known_tree;
 use ax_ask::{Action, DoName, What};
 use ax_base::Place;
-use ax_walk::{
+use ax_json::{
     Fault, Form, Node, WalkErr, Words, fields3, fields4, in_member, refuse, required, tag,
 };
 use serde_json::Value;
 use std::alloc::Global;
 use std::collections::BTreeSet;
-
-fn do_named(name: &str) -> Option<DoName>
-    ensures { result ≡ do_name name.now }
-{
-    if name == "focus" {
-        Some(DoName::Focus)
-    } else if name == "set_value" {
-        Some(DoName::SetValue)
-    } else if name == "scroll" {
-        Some(DoName::Scroll)
-    } else {
-        None
-    }
-}
 
 /// Where an action that says no more is done.
 #[tactic(auto, unfolding(crate::specs::Browser::place_acted))]
@@ -100,7 +86,7 @@ impl Form for ActionForm<'_> {
     #[tactic(auto, unfolding(crate::specs::Browser::action_of), using(crate::proofs::Steps::under_gives))]
     fn read(&self, alloc: Global, v: Value) -> Result<Action, WalkErr> {
         let name = tag(alloc, &v, "do")?;
-        let Some(which) = do_named(name) else {
+        let Some(which) = DoName::named(name) else {
             return Err(in_member(alloc, "do", refuse(alloc, Fault::BadName)));
         };
         action_as(alloc, self.trees, which, v)

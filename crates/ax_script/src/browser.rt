@@ -2,16 +2,16 @@
 ghost use Rattle.std.specs.Prelude.{◌≡◌, Result, option_map};
 ghost use Rattle.serde_json.specs.Data.{Data};
 ghost use Rattle.serde_json.specs.View.{view};
-ghost use Rattle.ax_walk.specs.Refused.{Refusal, Gives};
-ghost use Rattle.ax_script.specs.Browser.{ask_op, browser_as, browser_name, browser_op, destroy_op, known_tree, probe_op};
+ghost use Rattle.ax_json.specs.Refused.{Refusal, Gives};
+ghost use Rattle.ax_script.specs.Browser.{ask_op, browser_as, browser_op, destroy_op, known_tree, probe_op};
 ghost use Rattle.ax_script.specs.Trees.{knows};
 
 use crate::trees::is_known;
-use ax_ask::{BrowserOp, TimedOp};
+use ax_ask::{BrowserOp, BrowserOpName, TimedOp};
 use ax_attrs::Version;
 use ax_base::TreeId;
-use ax_shapes::{UpdateForm, after_of};
-use ax_walk::{Fault, Form, Tree, WalkErr, fields3, fields4, in_member, refuse, required, tag};
+use ax_forms::{UpdateForm, after_of};
+use ax_json::{Fault, Form, Tree, WalkErr, fields3, fields4, in_member, refuse, required, tag};
 use serde_json::Value;
 use std::alloc::Global;
 use std::collections::BTreeSet;
@@ -30,28 +30,6 @@ pub(crate) fn known_tree(
         Ok(tree)
     } else {
         Err(in_member(alloc, "tree", refuse(alloc, Fault::BadNumber)))
-    }
-}
-
-/// Which operation it is.
-#[derive(Clone, Copy)]
-pub enum BrowserName {
-    Ask,
-    Destroy,
-    Probe,
-}
-
-fn browser_named(name: &str) -> Option<BrowserName>
-    ensures { result ≡ browser_name name.now }
-{
-    if name == "ask" {
-        Some(BrowserName::Ask)
-    } else if name == "destroy" {
-        Some(BrowserName::Destroy)
-    } else if name == "probe" {
-        Some(BrowserName::Probe)
-    } else {
-        None
     }
 }
 
@@ -115,7 +93,7 @@ impl Form for BrowserForm<'_> {
     #[tactic(auto, unfolding(crate::specs::Browser::browser_op), using(crate::proofs::Steps::under_gives))]
     fn read(&self, alloc: Global, v: Value) -> Result<TimedOp, WalkErr> {
         let name = tag(alloc, &v, "op")?;
-        let Some(which) = browser_named(name) else {
+        let Some(which) = BrowserOpName::named(name) else {
             return Err(in_member(alloc, "op", refuse(alloc, Fault::BadName)));
         };
         browser_as(alloc, self.version, self.trees, which, v)
@@ -127,14 +105,14 @@ fn browser_as(
     alloc: Global,
     version: Version,
     trees: &BTreeSet<u32>,
-    which: BrowserName,
+    which: BrowserOpName,
     v: Value,
 ) -> Result<TimedOp, WalkErr>
     ensures { Gives (λ x. x) result (browser_as version (knows trees.now) which (view v)) }
 {
     match which {
-        BrowserName::Ask => ask_op(alloc, trees, v),
-        BrowserName::Destroy => destroy_op(alloc, trees, v),
-        BrowserName::Probe => probe_op(alloc, version, trees, v),
+        BrowserOpName::Ask => ask_op(alloc, trees, v),
+        BrowserOpName::Destroy => destroy_op(alloc, trees, v),
+        BrowserOpName::Probe => probe_op(alloc, version, trees, v),
     }
 }

@@ -2,8 +2,8 @@
 ghost use Rattle.std.specs.Prelude.{◌≡◌, Result, option_map};
 ghost use Rattle.serde_json.specs.Data.{Data};
 ghost use Rattle.serde_json.specs.View.{view};
-ghost use Rattle.ax_walk.specs.Refused.{Refusal, Gives};
-ghost use Rattle.ax_walk.specs.Walk.{str_of};
+ghost use Rattle.ax_json.specs.Refused.{Refusal, Gives};
+ghost use Rattle.ax_json.specs.Walk.{str_of};
 ghost use Rattle.ax_script.specs.Drafts.{draft_from, draft_of, draft_one, draft_two, is_version_one, version_of};
 
 use crate::action::ActionForm;
@@ -15,7 +15,7 @@ use crate::{FrameScripts, ReaderScripts};
 use ax_ask::{Actions, TimedOps};
 use ax_attrs::Version;
 use ax_base::Seq;
-use ax_walk::{
+use ax_json::{
     Fault, Form, ListOf, WalkErr, fields5, fields6, number_in, optional, refuse, required,
 };
 use serde_json::Value;
@@ -60,7 +60,7 @@ impl Form for BytesForm {
 
     ghost reads = { λ _. str_of };
 
-    #[tactic(auto, unfolding(ax_walk::specs::Walk::str_of))]
+    #[tactic(auto, unfolding(ax_json::specs::Walk::str_of))]
     fn read(&self, alloc: Global, v: Value) -> Result<Seq<u8>, WalkErr> {
         match v {
             Value::String(text) => Ok(Seq::from_vec(text.into_bytes())),
@@ -131,7 +131,7 @@ fn is_version_one(v: &Value) -> bool
     }
 }
 
-#[tactic(auto, unfolding(crate::specs::Drafts::draft_one, ax_walk::specs::Walk::known))]
+#[tactic(auto, unfolding(crate::specs::Drafts::draft_one, ax_json::specs::Walk::known))]
 fn draft_one(alloc: Global, v: Value) -> Result<Draft, WalkErr>
     ensures { Gives (λ x. x) result (draft_one (view v)) }
 {
@@ -151,7 +151,7 @@ fn draft_one(alloc: Global, v: Value) -> Result<Draft, WalkErr>
     )
 }
 
-#[tactic(auto, unfolding(crate::specs::Drafts::draft_two, ax_walk::specs::Walk::known))]
+#[tactic(auto, unfolding(crate::specs::Drafts::draft_two, ax_json::specs::Walk::known))]
 fn draft_two(alloc: Global, v: Value) -> Result<Draft, WalkErr>
     ensures { Gives (λ x. x) result (draft_two (view v)) }
 {

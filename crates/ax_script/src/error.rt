@@ -1,3 +1,4 @@
+//! Why bytes are no script.
 use ax_base::Text;
 use thiserror::Error;
 

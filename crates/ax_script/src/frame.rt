@@ -2,15 +2,15 @@
 ghost use Rattle.std.specs.Prelude.{◌≡◌, [], Result};
 ghost use Rattle.serde_json.specs.Data.{Data};
 ghost use Rattle.serde_json.specs.View.{view, items_view};
-ghost use Rattle.ax_walk.specs.Refused.{Refusal, Gives};
+ghost use Rattle.ax_json.specs.Refused.{Refusal, Gives};
 ghost use Rattle.ax_script.specs.Frames.{frame_of, frames_after, frames_of};
 ghost use Rattle.ax_script.specs.Trees.{knows};
 
 use crate::trees::{add_tree, is_known};
 use crate::{FrameScript, FrameScripts};
 use ax_attrs::Version;
-use ax_shapes::FrameOpForm;
-use ax_walk::{
+use ax_forms::FrameOpForm;
+use ax_json::{
     Fault, Form, ListOf, Tree, WalkErr, array_of, fields2, in_item, in_member, refuse, required,
 };
 use serde_json::Value;

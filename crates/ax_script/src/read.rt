@@ -2,7 +2,8 @@
 ghost use Rattle.std.specs.Prelude.{◌≡◌, ◌⊎◌, ◌∷◌, ◌+◌, ◌-◌, ◌^◌, IfOk, IfSome, None, Ok, length, min, sum_by, option_map};
 ghost use Rattle.std.specs.Str.{chars};
 ghost use Rattle.serde_json.specs.View.{view};
-ghost use Rattle.ax_walk.specs.Refused.{refusal_of};
+ghost use Rattle.ax_json.specs.Refused.{refusal_of};
+ghost use Rattle.ax_script.specs.Sound.{IsSound};
 ghost use Rattle.ax_script.specs.Script.{GivesScript, finished, json_of, ops_count, script, told, told_at, with_order};
 
 use crate::draft::{Draft, draft_of};
@@ -11,7 +12,7 @@ use crate::trees::trees_of;
 use crate::{FrameScript, Script, ScriptErr};
 use ax_ask::{Items, TimedQueries};
 use ax_base::{NoMemory, Text};
-use ax_walk::{Fault, WalkErr};
+use ax_json::{Fault, WalkErr};
 use serde_json::Value;
 use std::alloc::Global;
 
@@ -148,8 +149,20 @@ fn json_of(alloc: Global, bytes: &[u8]) -> Result<Option<Value>, NoMemory>
 
 /// The script that the bytes are, or the first refusal. `TooBig` comes before all else, then `NotJson`, then the refusals
 /// of the walk in its order, then `TooManyOps`, then `BadOrder`. `NotBuilt` never comes from here.
-#[tactic(auto, unfolding(crate::specs::Script::script))]
+///
+/// What is read is sound: there is a frame, no two frames have one tree, and operations, actions and the order's items name
+/// trees and readers that are there.
+#[tactic(auto, using(crate::proofs::Sound::given_is_sound))]
 pub fn read_script(alloc: Global, bytes: &[u8]) -> Result<Script, ScriptErr>
+    ensures script { GivesScript result (script bytes.now) }
+    ensures sound { IfOk result IsSound }
+{
+    script_of(alloc, bytes)
+}
+
+/// The script that the bytes are, or the first refusal.
+#[tactic(auto, unfolding(crate::specs::Script::script))]
+fn script_of(alloc: Global, bytes: &[u8]) -> Result<Script, ScriptErr>
     ensures { GivesScript result (script bytes.now) }
 {
     if bytes.len() > MAX_BYTES {

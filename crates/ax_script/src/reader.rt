@@ -2,13 +2,13 @@
 ghost use Rattle.std.specs.Prelude.{◌≡◌, Result};
 ghost use Rattle.serde_json.specs.Data.{Data};
 ghost use Rattle.serde_json.specs.View.{view};
-ghost use Rattle.ax_walk.specs.Refused.{Refusal, Gives};
+ghost use Rattle.ax_json.specs.Refused.{Refusal, Gives};
 ghost use Rattle.ax_script.specs.Readers.{readers_of};
 
 use crate::ReaderScripts;
 use ax_attrs::Version;
-use ax_shapes::QueryForm;
-use ax_walk::{Fault, Form, ListOf, WalkErr, array_of, each, refuse};
+use ax_forms::QueryForm;
+use ax_json::{Fault, Form, ListOf, WalkErr, array_of, each, refuse};
 use serde_json::Value;
 use std::alloc::Global;
 

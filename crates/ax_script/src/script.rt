@@ -1,3 +1,4 @@
+//! Scripts as they were read.
 use ax_ask::{Actions, FrameOps, Items, TimedOps, TimedQueries};
 use ax_attrs::Version;
 use ax_base::{Seq, TreeId};

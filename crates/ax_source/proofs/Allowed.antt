@@ -11,7 +11,7 @@ use Rattle.ax_trees.proofs.Trees.{by_go}
 use Rattle.ax_trees.proofs.Sizes.{count_plant, height_plant, count_pruned, depth_pruned}
 use Rattle.ax_trees.proofs.Nodes.{tree_at_is}
 use Rattle.ax_trees.proofs.Moved.{height_pruned}
-use Rattle.ax_store.proofs.Spotting.{stays_there}
+use Rattle.ax_views.proofs.Spotting.{stays_there}
 use Rattle.ax_tree.specs.declared.edit.EditErr.{EditErr}
 use Rattle.ax_tree.specs.declared.edit.EditErr.TheVariants.{NoRoot, UnknownNode, IdTaken, BadIndex, IsRoot, IntoItself, TooMany, TooDeep}
 use Rattle.ax_tree.specs.EditRule.{InsertLeaf, RemoveTree, MoveTree, SetKnown, trees_refusal, sized, unless}

@@ -22,9 +22,9 @@ use Rattle.ax_trees.proofs.Parents.{listed_children, child_listed, parent_or-par
 use Rattle.ax_trees.proofs.Placed.{removed_absent}
 use Rattle.ax_trees.proofs.Sizes.{count_pruned}
 use Rattle.ax_tree.specs.MarkRule.{add_mark, add_marks}
-use Rattle.ax_store.specs.Kept.{Keeps}
-use Rattle.ax_store.proofs.Climbing.{is_above}
-use Rattle.ax_store.proofs.Spotting.{spot_children, spot_known, spot_alone, tree_alone, spot_planted, tree_planted, roots-with_below, spot_pruned, tree_pruned, roots_pruned, spot_changed, tree_changed, spot_after_move, spot_moved, tree_moved, stays_there}
+use Rattle.ax_views.specs.Kept.{Keeps}
+use Rattle.ax_views.proofs.Climbing.{is_above}
+use Rattle.ax_views.proofs.Spotting.{spot_children, spot_known, spot_alone, tree_alone, spot_planted, tree_planted, roots-with_below, spot_pruned, tree_pruned, roots_pruned, spot_changed, tree_changed, spot_after_move, spot_moved, tree_moved, stays_there}
 use Rattle.ax_source.specs.declared.entries.Entry.{Entry}
 use Rattle.ax_source.specs.Changes.{child_added, child_dropped, relinked, Plants, Relinks}
 use Rattle.ax_source.specs.Kept.{Entries, IsSource, entry_of}

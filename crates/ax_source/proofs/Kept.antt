@@ -11,8 +11,8 @@ use Rattle.ax_trees.specs.Lists.{contains}
 use Rattle.ax_trees.proofs.Times.{has-spot, has-node}
 use Rattle.ax_trees.proofs.PlacedParents.{parent_none}
 use Rattle.ax_tree.specs.Tree.{data_of}
-use Rattle.ax_store.specs.Kept.{Keeps}
-use Rattle.ax_store.proofs.Keeping.{node_named, seen, keeps_same}
+use Rattle.ax_views.specs.Kept.{Keeps}
+use Rattle.ax_views.proofs.Keeping.{node_named, seen, keeps_same}
 use Rattle.ax_source.specs.declared.entries.Entry.{Entry}
 use Rattle.ax_source.specs.Source.{Source}
 use Rattle.ax_source.specs.Kept.{Entries, IsSource, entry_of, spot_of, trees_kept}

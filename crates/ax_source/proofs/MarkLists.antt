@@ -1,9 +1,9 @@
 -- Marks that are added and taken back.
-use Rattle.std.proofs.Common.{ℕ, ◌≡◌, Bool, true, false, cond, not, ◌||◌, eqb, List, [], ◌∷◌, ◌++◌, take, get_or, length, ◌<◌, ◌+◌, refl, sym, ap, ◌∙◌, arith}
+use Rattle.std.proofs.Common.{ℕ, ◌≡◌, Bool, true, false, cond, not, ◌||◌, eqb, List, [], ◌∷◌, ◌++◌, take, get_or, length, ◌<◌, ◌+◌, refl, sym, ap, subst, ◌∙◌, arith}
 use Rattle.std.proofs.lemmas.List.{take_more}
 use Rattle.std.proofs.lemmas.Bool.Decides.{eqb_tells}
-use Rattle.ax_client.specs.MarkList.{has as is_mark, added, without}
-use Rattle.ax_trees.specs.Lists.{contains}
+use Rattle.ax_marks.specs.MarkList.{has as is_mark, added, without, are_distinct}
+use Rattle.ax_trees.specs.Lists.{contains, NoneTwice}
 use Rattle.ax_trees.proofs.Trees.{by_go}
 use Rattle.ax_trees.proofs.Lists.{contains-push}
 use Rattle.ax_tree.specs.MarkRule.{add_mark, add_marks}
@@ -15,6 +15,16 @@ mark-contains (x ∷ m) z = ap (λ b. eqb x z || b) (mark-contains m z)
 
 pub added-mark : (m : List ℕ) (z : ℕ) → added m z ≡ add_mark m z
 added-mark m z = ap (λ b. cond b m (m ++ z ∷ [])) (mark-contains m z)
+
+-- marks that are distinct stand once each
+distinct_once : (m : List ℕ) → are_distinct m ≡ true → NoneTwice m
+distinct_once [] h = tt
+distinct_once (x ∷ m) h = by_go (is_mark m x)
+    (λ q. absurd (let n : false ≡ true = (rw q at h) in cc))
+    (λ q. (sym (mark-contains m x) ∙ q, distinct_once m (rw q at h)))
+
+pub none_twice : (s m : List ℕ) → m ≡ s → are_distinct m ≡ true → NoneTwice s
+none_twice s m e h = subst NoneTwice e (distinct_once m h)
 
 -- ---- taken back one by one
 

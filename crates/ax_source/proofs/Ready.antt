@@ -12,7 +12,7 @@ use Rattle.ax_tree.specs.Tree.{data_of}
 use Rattle.ax_tree.specs.Edits.{look_set, attr_set, attrs_set, bad_change, bad_value}
 use Rattle.ax_tree.specs.declared.edit.AttrChange.{AttrChange}
 use Rattle.ax_tree.specs.declared.edit.SetNode.{SetNode}
-use Rattle.ax_store.proofs.Spotting.{spot_known}
+use Rattle.ax_views.proofs.Spotting.{spot_known}
 use Rattle.ax_source.specs.declared.attributes.Parts.{Parts}
 use Rattle.ax_source.specs.Kept.{entry_of}
 use Rattle.ax_source.specs.Parts.{has_key, look_with, parts_put}

@@ -7,7 +7,7 @@ use Rattle.ax_node.specs.Look.{Look, look_of, node_of}
 use Rattle.ax_trees.specs.Trees.{Trees, has, count}
 use Rattle.ax_trees.specs.Spots.{Spot}
 use Rattle.ax_trees.specs.Lists.{contains}
-use Rattle.ax_store.specs.Kept.{Keeps, trees_in}
+use Rattle.ax_views.specs.Kept.{Keeps, trees_in}
 use Rattle.ax_source.specs.declared.entries.Entry.{Entry}
 
 abbrev pub Entries : Type 0

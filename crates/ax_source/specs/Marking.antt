@@ -1,6 +1,6 @@
 -- Marks that are taken back.
 use Rattle.std.specs.Prelude.{ℕ, Bool, not, filter, if◌then◌else◌, List}
-use Rattle.ax_client.specs.MarkList.{without}
+use Rattle.ax_marks.specs.MarkList.{without}
 use Rattle.ax_trees.specs.Lists.{contains}
 
 -- the marks without z, where it was new

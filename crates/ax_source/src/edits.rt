@@ -13,10 +13,10 @@ use crate::attributes::{Parts, new_parts, set_data};
 use crate::entries::{Entry, drop_child, plant, put_in, relink};
 use crate::marking::{mark_two, unmark_all, unmark_two};
 use ax_base::NodeId;
-use ax_client::Marks;
+use ax_marks::Marks;
 use ax_node::NodeData;
-use ax_store::{pre, take_out};
 use ax_tree::{Edit, EditErr, SetNode, SetTree, TreeView};
+use ax_views::{pre, take_out};
 use std::collections::HashMap;
 
 impl SourceTree {

@@ -11,7 +11,5 @@ mod entries;
 mod marking;
 mod refusals;
 mod source;
-#[cfg(test)]
-mod tests;
 
 pub use source::SourceTree;

@@ -3,7 +3,7 @@ ghost use Rattle.ax_tree.specs.MarkRule.{add_mark, add_marks};
 ghost use Rattle.ax_source.specs.Marking.{less, taken_back};
 
 use ax_base::{Ids, NoMemory, NodeId};
-use ax_client::Marks;
+use ax_marks::Marks;
 use std::alloc::Global;
 
 /// Marks two ids, and tells of each whether it wasn't marked, so that it can be taken back.

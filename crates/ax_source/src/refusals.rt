@@ -9,8 +9,8 @@ use crate::attributes::first_bad;
 use crate::children::others_count;
 use ax_base::NodeId;
 use ax_node::NodeData;
-use ax_store::{depth, height_below, is_below};
 use ax_tree::{EditErr, SetNode, TreeView};
+use ax_views::{depth, height_below, is_below};
 
 // The most nodes of a tree, and of a chain.
 const MOST_NODES: usize = 100_000;

@@ -1,18 +1,19 @@
-ghost use Rattle.std.specs.Prelude.{◌≡◌, ◌↔◌, ◌⊎◌, [], false, true, IfErr, IsTrue, OnOk, OnErr};
-ghost use Rattle.ax_client.specs.MarkList.{without};
-ghost use Rattle.ax_trees.specs.Trees.{has};
+ghost use Rattle.std.specs.Prelude.{ℕ, ◌≡◌, ◌≤◌, [], false, true, IfErr, IsTrue, OnOk, OnErr};
+ghost use Rattle.ax_marks.specs.MarkList.{without};
+ghost use Rattle.ax_trees.specs.Lists.{contains, NoneTwice};
+ghost use Rattle.ax_trees.specs.Trees.{count, has, height, root_of};
 ghost use Rattle.ax_trees.specs.Nodes.{pre};
 ghost use Rattle.ax_tree.specs.MarkRule.{add_mark, add_marks};
-ghost use Rattle.ax_tree.specs.Tree.{empty};
+ghost use Rattle.ax_tree.specs.Tree.{empty, IsWellFormed};
 ghost use Rattle.ax_source.specs.Source.{IsMarkRefusal};
 
 use crate::entries::Entry;
 use crate::marking::mark_all;
 use ax_base::{NodeId, TreeId};
-use ax_client::Marks;
+use ax_marks::Marks;
 use ax_node::{NodeData, TreeData};
-use ax_store::pre;
 use ax_tree::{MarkErr, TreeView};
+use ax_views::pre;
 use std::alloc::Global;
 use std::collections::HashMap;
 use std::marker::Model;
@@ -58,10 +59,14 @@ impl SourceTree {
         }
     }
 
-    /// The marks, in order. Each is of a node of the tree.
+    /// The marks, in order: ids of nodes of the tree, each once.
     pub fn marks(&self) -> &Marks
-        ensures { result.now ≡ self.now.marks }
+        ensures marks { result.now ≡ self.now.marks }
+        ensures there { (z : ℕ) → contains self.now.marks z ≡ true → has self.now.tree.trees z ≡ true }
+        ensures once { NoneTwice self.now.marks }
     {
+        // Its contract says that none stands twice.
+        let _len = self.marks.len();
         &self.marks
     }
 
@@ -132,7 +137,12 @@ impl TreeView for SourceTree {
 
     ghost tree = { λ s. s.tree };
 
-    fn root(&self) -> Option<NodeId> {
+    /// The root's id. No chain has more than 256 nodes.
+    fn root(&self) -> Option<NodeId>
+        ensures root { result ≡ root_of self.now.tree.trees }
+        ensures well_formed { IsWellFormed self.now.tree }
+        ensures low { height self.now.tree.trees ≤ 256 }
+    {
         self.root
     }
 
@@ -154,7 +164,11 @@ impl TreeView for SourceTree {
         &self.about
     }
 
-    fn count(&self) -> usize {
+    /// How many nodes there are: at most 100,000.
+    fn count(&self) -> usize
+        ensures count { result ≡ count self.now.tree.trees }
+        ensures few { result ≤ 100000 }
+    {
         self.entries.len()
     }
 }

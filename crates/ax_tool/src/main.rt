@@ -1,16 +1,12 @@
 //! The program: it replays a script of accessibility edits, and prints every step and the trees that their receivers hold.
 //!
-//! `calm_main` does all of it, over any source and any sink; `main` only hands it the words, standard input and standard
-//! output. Nothing is written to standard error.
+//! `ax_top` does all of it; `main` only hands it the words, standard input and standard output. Nothing is written to
+//! standard error.
 #![tactic(auto)]
 
-mod answer;
-mod built;
-mod top;
-
-use crate::top::{Status, calm_main};
 use ax_base::{NoMemory, Text};
 use ax_io::{StdSink, StdSource};
+use ax_top::{Status, calm_main};
 use std::alloc::Global;
 use std::env;
 use std::env::Args;
@@ -60,6 +56,3 @@ fn status_of(rt: &HostRuntime) -> Status {
 fn main(rt: HostRuntime) -> ExitCode {
     ExitCode::from(status_of(&rt).number())
 }
-
-#[cfg(test)]
-mod tests;

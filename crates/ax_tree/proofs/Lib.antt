@@ -2,3 +2,10 @@ pub mod SerialExamples
 pub mod UpdateExamples
 pub mod EditExamples
 pub mod FrameExamples
+pub mod TouchingLemmas
+pub mod Arranged
+pub mod NodeSteps
+pub mod Drafts
+pub mod GoodFronts
+pub mod Taken
+pub mod SoundLemmas

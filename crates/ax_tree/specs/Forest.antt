@@ -1,17 +1,17 @@
 -- A forest: trees in their order, some of them gone; and which tree hangs at which node of another.
-use Rattle.std.specs.Prelude.{ℕ, Bool, false, ◌&&◌, ◌||◌, ◌==◌, if◌then◌else◌, List, [], ◌∷◌, Option, Some, None, option_map, option_and_then}
+use Rattle.std.specs.Prelude.{ℕ, ◌≡◌, ◌≤◌, Bool, false, ◌&&◌, ◌||◌, ◌==◌, if◌then◌else◌, List, [], ◌∷◌, map, Option, Some, None, option_map, option_and_then}
 use Rattle.std.specs.List.{find}
 use Rattle.std.specs.Ordering.{nat_cmp}
 use Rattle.std.specs.FinMap.Entries as entries
 use Rattle.ax_base.specs.declared.position.Place.{Place}
 use Rattle.ax_node.specs.declared.value.Value.{Value}
 use Rattle.ax_node.specs.declared.value.Value.TheVariants as values
-use Rattle.ax_trees.specs.Trees.{is_bare}
+use Rattle.ax_trees.specs.Trees.{is_bare, height}
 use Rattle.ax_trees.specs.Nodes.{Node}
-use Rattle.ax_trees.specs.Lists.{is_nil}
+use Rattle.ax_trees.specs.Lists.{is_nil, NoneTwice}
 use Rattle.ax_tree.specs.SerialRule.{all_of}
 use Rattle.ax_node.specs.Look.{Look}
-use Rattle.ax_tree.specs.Tree.{Tree}
+use Rattle.ax_tree.specs.Tree.{Tree, IsWellFormed}
 
 -- a tree of the forest by its id; none where it is gone
 pub record Standing : Type 0 where
@@ -33,6 +33,17 @@ is_first (s ∷ ss) t = s.id == t
 -- the tree t, where it is live
 abbrev pub live_tree : Forest → ℕ → Option Tree
 live_tree f t = option_and_then (λ (s : Standing). s.tree) (find (λ (s : Standing). s.id == t) f)
+
+-- m is well formed, has no chain of more than 256 nodes, and its data have the id t
+pub record IsSoundTree (t : ℕ) (m : Tree) : Type 0 where
+  pub well_formed : IsWellFormed m
+  pub low : height m.trees ≤ 256
+  pub named : m.about.tree ≡ t
+
+-- the ids of the trees differ, and each live tree is sound
+pub record IsSound (f : Forest) : Type 0 where
+  pub once : NoneTwice (map (λ (s : Standing). s.id) f)
+  pub live : (t : ℕ) (m : Tree) → live_tree f t ≡ Some m → IsSoundTree t m
 
 -- the attribute `child_tree` names the tree t
 abbrev pub child_tree_key : ℕ

@@ -13,3 +13,5 @@ pub mod Serialised
 pub mod Journals
 pub mod Packets
 pub mod Forest
+pub mod Touching
+pub mod NodeSteps

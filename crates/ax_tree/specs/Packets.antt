@@ -5,13 +5,13 @@ use Rattle.ax_tree.specs.declared.edit.Edit.{Edit}
 use Rattle.ax_tree.specs.declared.packet.Packet.{Packet}
 use Rattle.ax_tree.specs.declared.packet.JEntry.{JEntry}
 use Rattle.ax_tree.specs.Tree.{Tree, empty}
-use Rattle.ax_tree.specs.Edits.{edited}
 use Rattle.ax_tree.specs.Updates.{applied_all}
-use Rattle.ax_tree.specs.Journals.{frame_of, packets_of}
+use Rattle.ax_tree.specs.Journals.{edit_taken, frame_of, packets_of}
 
+-- the edits one after the other; a refused one changes nothing
 abbrev pub edited_all : List Edit → Tree → Tree
 edited_all [] s = s
-edited_all (e ∷ es) s = edited_all es (edited e s)
+edited_all (e ∷ es) s = edited_all es (edit_taken e s)
 
 -- the source at the pass k: the joined slips of the first k packets upon the empty tree
 abbrev pub source_at : ℕ → List Packet → ℕ → Tree

@@ -1,4 +1,7 @@
+//! Edits of a source tree, and why an edit or a mark is refused.
 ghost use Rattle.std.specs.Prelude.{◌≡◌, IfOk};
+ghost use Rattle.ax_tree.specs.declared.edit.EditErr.TheVariants.{NoMemory as EditHasNoMemory};
+ghost use Rattle.ax_tree.specs.declared.edit.MarkErr.TheVariants.{NoMemory as MarkHasNoMemory};
 
 use ax_attrs::{Key, Role};
 use ax_base::{NoMemory, NodeId, Rect, Seq, Text, TreeId};
@@ -101,6 +104,22 @@ pub enum MarkErr {
     UnknownNode(NodeId),
     #[error("no memory")]
     NoMemory,
+}
+
+impl From<NoMemory> for EditErr {
+    ghost from_gives = { λ _ e. e ≡ EditHasNoMemory };
+
+    fn from(_: NoMemory) -> EditErr {
+        EditErr::NoMemory
+    }
+}
+
+impl From<NoMemory> for MarkErr {
+    ghost from_gives = { λ _ e. e ≡ MarkHasNoMemory };
+
+    fn from(_: NoMemory) -> MarkErr {
+        MarkErr::NoMemory
+    }
 }
 
 impl Edit {

@@ -6,15 +6,15 @@
 
 mod edit;
 mod packet;
-#[cfg(test)]
-mod tests;
+mod touching;
 mod update;
 mod verdict;
 mod view;
 
-pub use ax_base::{Places, Touched};
+pub use ax_base::Places;
 pub use edit::{AttrChange, AttrChanges, Edit, EditErr, Edits, MarkErr, SetNode, SetTree};
 pub use packet::{HEntry, History, JEntry, Journal, Packet, Slip};
+pub use touching::Touched;
 pub use update::{Bundle, BundleErr, Nodes, Refusal, TreeUpdate, Updates};
 pub use verdict::{Event, Events, Verdict};
 pub use view::{Grove, TreeView};

@@ -1,3 +1,4 @@
+//! What a frame sends, its journal, and the browser's history.
 use crate::{Bundle, Edit, TreeUpdate};
 use ax_base::{NodeId, PassNo, Seq, Token, TreeId};
 

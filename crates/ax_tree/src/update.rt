@@ -1,4 +1,6 @@
+//! Updates of a tree, bundles of them, and why they are refused.
 ghost use Rattle.std.specs.Prelude.{◌≡◌, IfOk};
+ghost use Rattle.ax_tree.specs.declared.update.Refusal.TheVariants.{NoMemory as HasNoMemory};
 
 use ax_base::{NoMemory, NodeId, Seq};
 use ax_node::{NodeData, TreeData};
@@ -38,7 +40,16 @@ pub enum Refusal {
     NoMemory,
 }
 
-/// Why a bundle was refused, and at which of its updates.
+impl From<NoMemory> for Refusal {
+    ghost from_gives = { λ _ e. e ≡ HasNoMemory };
+
+    fn from(_: NoMemory) -> Refusal {
+        Refusal::NoMemory
+    }
+}
+
+/// Why a bundle was refused, and at which of its updates. There is no `From<NoMemory>`, since only who applies the bundle
+/// knows the place.
 #[derive(Clone, Copy, Debug, PartialEq, Eq)]
 pub struct BundleErr {
     pub at: usize,

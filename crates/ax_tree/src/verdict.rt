@@ -1,3 +1,4 @@
+//! What becomes of a received packet, and the events that it tells.
 use ax_attrs::EventKind;
 use ax_base::{NodeId, PassNo, Seq, Token, TreeId};
 

@@ -1,9 +1,10 @@
+//! Trees and forests that can be read, whatever keeps them.
 ghost use Rattle.std.specs.Prelude.{◌≡◌, ◌≤◌, IfSome, Some, option_map, is_some, IsTrue, ◌↔◌, IsSome};
 ghost use Rattle.std.specs.Option.{option_copied};
 ghost use Rattle.ax_trees.specs.Trees.{root_of, height, count};
 ghost use Rattle.ax_trees.specs.Nodes.{parent};
 ghost use Rattle.ax_tree.specs.Tree.{Tree, IsWellFormed, node};
-ghost use Rattle.ax_tree.specs.Forest.{Forest, first_tree, live_tree, host_of, hosted_by};
+ghost use Rattle.ax_tree.specs.Forest.{Forest, IsSound, first_tree, live_tree, host_of, hosted_by};
 
 use ax_base::{NodeId, Place, TreeId};
 use ax_node::{NodeData, TreeData};
@@ -35,8 +36,8 @@ pub trait TreeView {
         ensures { result ≡ count (tree self.now).trees };
 }
 
-/// Trees in their order, some of them gone, that hang at nodes of one another. No chain of a live tree has more than 256
-/// nodes.
+/// Trees in their order, some of them gone, that hang at nodes of one another. Their ids differ; each live tree is well
+/// formed, has its own id in its data, and no chain of more than 256 nodes.
 pub trait Grove {
     /// The forest.
     ghost forest: { Self → Forest };
@@ -51,10 +52,11 @@ pub trait Grove {
     fn live(&self, t: TreeId) -> bool
         ensures { IsTrue result ↔ IsSome (live_tree (forest self.now) t) };
 
-    /// The tree, where it is live.
+    /// The tree, where it is live. Whatever tree is asked for, the whole forest is sound.
     fn tree(&self, t: TreeId) -> Option<&Self::Tree>
         ensures tree { option_map (λ r. Self.Tree.tree r.now) result ≡ live_tree (forest self.now) t }
-        ensures low { IfSome result (λ r. height (Self.Tree.tree r.now).trees ≤ 256) };
+        ensures low { IfSome result (λ r. height (Self.Tree.tree r.now).trees ≤ 256) }
+        ensures sound { IsSound (forest self.now) };
 
     /// The node at which the tree hangs.
     fn host_of(&self, t: TreeId) -> Option<Place>

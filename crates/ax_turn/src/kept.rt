@@ -1,3 +1,4 @@
+//! What a value is to a turn.
 ghost use Rattle.std.specs.Prelude.{ℕ, List};
 
 /// A value that a turn keeps. It stands for a list of entries; each entry has the number of its maker, and the value

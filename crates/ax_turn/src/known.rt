@@ -1,3 +1,4 @@
+//! What a seat knows.
 use std::collections::LinkedList;
 
 /// What a seat knows, as the rule of a turn speaks of it. It exists in the proofs alone.

@@ -11,6 +11,7 @@ mod rule;
 mod seat;
 mod turn;
 
+pub use ax_base::NoMemory;
 pub use kept::Kept;
 pub use seat::{Seat, SeatOver};
-pub use turn::{NoMemory, Turn};
+pub use turn::Turn;

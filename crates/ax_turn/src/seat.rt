@@ -1,3 +1,4 @@
+//! Seats.
 use crate::kept::Kept;
 use crate::known::Known;
 use std::marker::Model;

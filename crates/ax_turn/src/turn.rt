@@ -1,3 +1,4 @@
+//! The turn itself.
 ghost use Rattle.std.specs.Prelude.{◌≡◌, ℕ, ◌<◌, ◌≤◌, ◌+◌, ◌⊎◌, true, false, if◌then◌else◌, nat_lt, IfOk, IfErr, IsOkAnd};
 ghost use Rattle.ax_turn.specs.Makers.{AllOwn, GrowsByOwn, GrowsByOthers, longer};
 
@@ -6,15 +7,12 @@ use crate::known::Known;
 use crate::rule::{Cut, Learn, OneInside, Opening, Place, Release, Take, Together};
 use crate::seat::{Seat, SeatOver};
 use atomic_table::{Refused, Table};
+use ax_base::NoMemory;
 use std::alloc::Global;
 use std::marker::{Brand, Model};
 use std::snapshot::Snapshot;
 use std::sync::Wait;
 use std::thread;
-
-/// There was no memory.
-#[derive(Clone, Copy, Debug, PartialEq, Eq)]
-pub struct NoMemory;
 
 /// A cell whose value is taken by one seat at a time.
 ///

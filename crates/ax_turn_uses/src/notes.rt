@@ -1,3 +1,4 @@
+//! A list of notes that a turn keeps.
 use ax_turn::Kept;
 
 /// A number that a thread wrote down.

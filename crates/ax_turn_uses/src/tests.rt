@@ -1,3 +1,4 @@
+//! What two threads wrote, whatever the schedule.
 use crate::{Note, Notes, look_twice, two_writers};
 use ax_turn::Turn;
 use std::test::*;

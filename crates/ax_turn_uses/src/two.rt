@@ -1,3 +1,4 @@
+//! Two threads at one turn, and two looks of one seat.
 ghost use Rattle.std.specs.Prelude.{◌≡◌, ◌+◌, ◌<◌, ◌++◌, [], ◌∷◌, false, List, IfSome, MatchBool};
 ghost use Rattle.ax_turn.specs.Makers.{GrowsByOthers};
 ghost use Rattle.ax_turn_uses.specs.declared.notes.Note.{Note};

@@ -20,6 +20,3 @@ pub enum Command {
     /// The seed, the number of frames from 1 to 1000, and the number of operations from 1 to 900,000.
     Gen { seed: u32, frames: u32, ops: u32 },
 }
-
-#[cfg(test)]
-mod tests;

@@ -1,6 +1,6 @@
 use Rattle.std.proofs.Common.{◌≡◌, ◌++◌, true, false, map}
 use Rattle.crossbeam_queue.specs.SegTies.{IsSegPassOf}
-use Rattle.ax_lane.specs.Ends.{pair_of}
+use Rattle.ax_lane.specs.Ends.{back_of}
 use Rattle.ax_lane.proofs.lane.take_back.Given as goal
 
 abbrev pub invariant-loop-tx : goal.invariant-loop-tx
@@ -10,5 +10,5 @@ invariant-loop-tx l = record {
   idle : l.pass.me.view.client.sends ≡ false;
   got : l.pass.me.view.client.got ≡ l.initial.pass.me.view.client.got;
   trees : l.pass.me.view.client.trees ≡ l.initial.pass.me.view.client.trees;
-  back : l.pass.me.view.client.back ≡ l.initial.pass.me.view.client.back ++ map pair_of l.yielded;
+  back : l.pass.me.view.client.back ≡ l.initial.pass.me.view.client.back ++ map back_of l.yielded;
 }

@@ -17,4 +17,4 @@ send-requires-clause-good g c =
 
 pub loop-number-preserved : goal.loop-number-preserved
 loop-number-preserved g c =
-    sent_one_more c.args.lane.now c.args.tree c.loop-number.number c.loop-number.tx c.send.new.tx c.plain-packet.result c.loop-number.invariant c.plain-packet.ensures c.in-Ok.ensures
+    sent_one_more c.args.lane.now c.args.tree c.loop-number.number c.in-Ok.ensures.0 c.loop-number.tx c.send.new.tx c.plain-packet.result c.loop-number.invariant c.plain-packet.ensures c.in-Ok.ensures.1

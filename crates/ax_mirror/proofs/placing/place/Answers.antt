@@ -8,7 +8,8 @@ use Rattle.ax_mirror.proofs.Looks.{is_some-copied}
 use Rattle.ax_mirror.proofs.Placings.{placed_start, placed_old, placed_bad, placed_new, placed_end, placed_none}
 use Rattle.ax_mirror.proofs.Tracks.{track_start, track_then, costs_then}
 use Rattle.ax_trees.specs.Lists.{contains}
-use Rattle.ax_mirror.specs.Accounts.{Accounts, no_id, is_id}
+use Rattle.ax_mirror.specs.Accounts.{Accounts, Reaches, no_id, is_id}
+use Rattle.ax_mirror.proofs.Reached.{grows, on_err, reach_then, reach_wide}
 use Rattle.ax_mirror.proofs.Accounts.{acc_start, acc_then, acc_weaken, is_in, one_in}
 use Rattle.ax_mirror.proofs.placing.place.Goals as goal
 
@@ -68,3 +69,9 @@ returns-then-is_some-clause-accounts g c = subst (λ (js : List ℕ). Accounts (
 
 pub returns-clause-accounts : goal.returns-clause-accounts
 returns-clause-accounts g c = subst (λ (js : List ℕ). Accounts (contains js) no_id c.args.draft.now c.loop-id.draft) c.as_slice-id-items.ensures c.loop-id.invariant.accounts
+
+pub returns-in_err-put_pending-clause-reach : goal.returns-in_err-put_pending-clause-reach
+returns-in_err-put_pending-clause-reach g c = on_err _
+    (subst (λ (js : List ℕ). Reaches (contains js) c.args.draft.now c.put_pending.new.draft c.args.steps.now c.put_pending.new.steps) c.as_slice-id-items.ensures
+    (reach_then _ _ c.loop-id.draft _ _ _ _ (grows _ no_id _ c.loop-id.draft c.loop-id.invariant.accounts) c.loop-id.invariant.cost
+    (reach_wide (is_id c.id-item.result) _ c.loop-id.draft _ _ _ (λ z h. one_in _ c.id-item.result z (is_in _ c.loop-id.id-index c.id-item.result (record { low = c.loop-id-test.true; item = c.id-item.is })) h) c.in_err-put_pending.ensures.reach)))

@@ -5,7 +5,10 @@ use Rattle.ax_mirror.proofs.Looks.{get_remove, len_falls, at_other}
 use Rattle.ax_mirror.proofs.Walks.{left_begins, left_next, left_ends, less_next}
 use Rattle.ax_mirror.proofs.Tracks.{track_start, track_then, track_touch, costs_then}
 use Rattle.ax_mirror.specs.Accounts.{no_id}
-use Rattle.ax_mirror.proofs.Accounts.{acc_start, acc_then, acc_take}
+use Rattle.std.proofs.Common.{true}
+use Rattle.std.specs.Prelude.{is_some}
+use Rattle.ax_mirror.proofs.Accounts.{acc_start, acc_then, acc_take, or_left}
+use Rattle.ax_mirror.proofs.Reached.{grows, on_err, reach_done, reach_one, reach_then}
 use Rattle.ax_mirror.proofs.removing.take_out.Goals as goal
 
 pub loop-id-smaller : goal.loop-id-smaller
@@ -40,3 +43,16 @@ returns-clause-out g c = record {
 
 pub returns-clause-accounts : goal.returns-clause-accounts
 returns-clause-accounts g c = c.loop-id.invariant.accounts
+
+pub returns-in_default-read-clause-reach : goal.returns-in_default-read-clause-reach
+returns-in_default-read-clause-reach g c = reach_done _ _ c.loop-id.draft _ _ _ refl (grows no_id no_id _ c.loop-id.draft c.loop-id.invariant.accounts) c.loop-id.invariant.cost
+
+pub returns-in_err-push_reversed-clause-reach : goal.returns-in_err-push_reversed-clause-reach
+returns-in_err-push_reversed-clause-reach g c = on_err _
+    (reach_done _ _ c.loop-id.draft _ _ _ refl (grows no_id no_id _ c.loop-id.draft c.loop-id.invariant.accounts) c.loop-id.invariant.cost)
+
+pub returns-in_err-take-clause-reach : goal.returns-in_err-take-clause-reach
+returns-in_err-take-clause-reach g c = on_err _
+    (let there : is_some (map.get c.loop-id.draft.nodes c.in-Some.id) ≡ true = ap is_some (sym c.in-Some-read.ensures) in
+    reach_then _ _ c.loop-id.draft _ _ _ _ (grows no_id no_id _ c.loop-id.draft c.loop-id.invariant.accounts) c.loop-id.invariant.cost
+    (reach_one no_id c.loop-id.draft _ c.in-Some.id _ _ c.in_err-take.ensures.at_most (or_left _ _ there) c.in_err-take.ensures.cost))

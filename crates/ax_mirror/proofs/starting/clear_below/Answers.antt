@@ -14,6 +14,8 @@ use Rattle.ax_mirror.proofs.Begins.{below_is, tells_below, keeps_cleared, keeps_
 use Rattle.std.proofs.lemmas.Bool.{false≢true}
 use Rattle.ax_mirror.specs.Accounts.{no_id, is_id}
 use Rattle.ax_mirror.proofs.Accounts.{acc_start, acc_then, acc_weaken}
+use Rattle.std.proofs.Common.{refl}
+use Rattle.ax_mirror.proofs.Reached.{grow_wide, grows, on_err, reach_here, reach_none, reach_then}
 use Rattle.ax_mirror.proofs.starting.clear_below.Goals as goal
 
 pub returns-in_default-clause-ok : goal.returns-in_default-clause-ok
@@ -43,3 +45,17 @@ pub returns-clause-accounts : goal.returns-clause-accounts
 returns-clause-accounts g c =
     acc_then (is_id c.args.id) no_id _ c.take_out.new.draft _
     (acc_weaken no_id no_id (is_id c.args.id) no_id c.args.draft.now c.take_out.new.draft (λ z h. absurd (false≢true h)) (λ z h. h) c.in_ok-take_out.ensures.accounts) c.in_ok-put_pending.ensures.accounts
+
+pub returns-in_err-push_reversed-clause-reach : goal.returns-in_err-push_reversed-clause-reach
+returns-in_err-push_reversed-clause-reach g c = on_err _
+    (reach_here _ _ _ _ refl)
+
+pub returns-in_err-take_out-clause-reach : goal.returns-in_err-take_out-clause-reach
+returns-in_err-take_out-clause-reach g c = on_err _
+    (reach_none _ _ _ _ _ c.in_err-take_out.ensures.reach)
+
+pub returns-in_err-put_pending-clause-reach : goal.returns-in_err-put_pending-clause-reach
+returns-in_err-put_pending-clause-reach g c = on_err _
+    (reach_then _ _ c.take_out.new.draft _ _ _ _
+    (grow_wide no_id (is_id c.args.id) c.args.draft.now c.take_out.new.draft (λ z h. absurd (false≢true h)) (grows no_id no_id c.args.draft.now c.take_out.new.draft c.in_ok-take_out.ensures.accounts))
+    c.in_ok-take_out.ensures.cost c.in_err-put_pending.ensures.reach)

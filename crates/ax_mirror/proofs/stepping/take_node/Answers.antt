@@ -16,7 +16,8 @@ use Rattle.ax_mirror.specs.Kept.{Keeps}
 use Rattle.ax_mirror.specs.Changes.{RepeatsChild}
 use Rattle.ax_mirror.specs.Steps.{is_elsewhere, Places}
 use Rattle.ax_mirror.proofs.Looks.{get_insert, at_other}
-use Rattle.ax_mirror.proofs.Tracks.{track_touch, track_then, made_step}
+use Rattle.ax_mirror.proofs.Tracks.{costs_then, track_touch, track_then, made_step}
+use Rattle.ax_mirror.proofs.Reached.{grow_then, grow_none, grow_children, reach_done, reach_here, reach_none, reach_one, reach_then, reach_wide}
 use Rattle.ax_mirror.proofs.Together.{refused_absent, refused_twice, is_refused, is_accepted, keeps_on, tells_leave, tops_leave, leave, with_next}
 use Rattle.std.proofs.lemmas.Bool.{false≢true}
 use Rattle.ax_mirror.specs.Accounts.{no_id, is_id, node_names}
@@ -92,3 +93,29 @@ returns-in-Ok-put-clause-accounts g c =
     (acc_weaken (contains u.children) no_id (node_names u) (is_id u.id) c.take_out.new.draft c.place.new.draft (λ z h. or_right (eqb u.id z) (contains u.children z) h) (λ z h. absurd (false≢true h)) c.in-Ok-None.ensures.accounts))
     (acc_put (node_names u) (is_id u.id) c.place.new.draft _ u.id to (λ z. ap (λ (n : Nodes). map.get n z) c.in-Ok-put.ensures.ok ∙ get_insert c.place.new.draft.nodes u.id to z) c.in-Ok-put.ensures.touched
     (or_left (eqb u.id u.id) (contains u.children u.id) (self_is u.id)) (inr (self_is u.id)))
+
+pub returns-in_default-clause-reach : goal.returns-in_default-clause-reach
+returns-in_default-clause-reach g c = reach_here _ _ _ _ refl
+
+pub returns-in-Err-clause-reach : goal.returns-in-Err-clause-reach
+returns-in-Err-clause-reach g c = reach_here _ _ _ _ refl
+
+pub returns-in-Err-take_out-clause-reach : goal.returns-in-Err-take_out-clause-reach
+returns-in-Err-take_out-clause-reach g c = reach_none _ _ _ _ _ c.in-Err-take_out.ensures.reach
+
+pub returns-in-Ok-Some-clause-reach : goal.returns-in-Ok-Some-clause-reach
+returns-in-Ok-Some-clause-reach g c =
+    reach_done _ _ c.place.new.draft _ _ _ refl
+    (grow_then (node_names c.args.node.now) c.args.draft.now c.take_out.new.draft c.place.new.draft (grow_none (node_names c.args.node.now) c.args.draft.now c.take_out.new.draft c.in-Ok-take_out.ensures.accounts) (grow_children c.args.node.now c.take_out.new.draft c.place.new.draft c.in-Ok-Some.ensures.accounts))
+    (costs_then _ _ _ _ _ _ c.in-Ok-take_out.ensures.cost c.in-Ok-Some.ensures.cost)
+
+pub returns-in-Err-place-clause-reach : goal.returns-in-Err-place-clause-reach
+returns-in-Err-place-clause-reach g c =
+    reach_then _ _ c.take_out.new.draft _ _ _ _ (grow_none (node_names c.args.node.now) c.args.draft.now c.take_out.new.draft c.in-Ok-take_out.ensures.accounts) c.in-Ok-take_out.ensures.cost
+    (reach_wide (contains c.args.node.now.children) (node_names c.args.node.now) _ _ _ _ (λ z h. or_right (eqb c.args.node.now.id z) (contains c.args.node.now.children z) h) c.in-Err-place.ensures.reach)
+
+pub returns-in_default-copy-clause-reach : goal.returns-in_default-copy-clause-reach
+returns-in_default-copy-clause-reach g c =
+    reach_done _ _ c.place.new.draft _ _ _ refl
+    (grow_then (node_names c.args.node.now) c.args.draft.now c.take_out.new.draft c.place.new.draft (grow_none (node_names c.args.node.now) c.args.draft.now c.take_out.new.draft c.in-Ok-take_out.ensures.accounts) (grow_children c.args.node.now c.take_out.new.draft c.place.new.draft c.in-Ok-None.ensures.accounts))
+    (costs_then _ _ _ _ _ _ c.in-Ok-take_out.ensures.cost c.in-Ok-None.ensures.cost)

@@ -2,6 +2,7 @@ use Rattle.std.proofs.Common.{arith}
 use Rattle.ax_mirror.proofs.Tracks.{track_start, track_then, made_start, made_then, costs_then}
 use Rattle.ax_mirror.proofs.Runs.{run_begins, run_next, run_stops, run_ends}
 use Rattle.ax_mirror.proofs.Accounts.{acc_start, acc_then, acc_node}
+use Rattle.ax_mirror.proofs.Reached.{grows, named_here, reach_then, reach_wide}
 use Rattle.ax_mirror.proofs.stepping.take_nodes.Goals as goal
 
 pub loop-node-init : goal.loop-node-init
@@ -35,3 +36,8 @@ returns-clause-cost g c = c.loop-node.invariant.cost
 
 pub returns-clause-accounts : goal.returns-clause-accounts
 returns-clause-accounts g c = c.loop-node.invariant.accounts
+
+pub returns-in-Err-clause-reach : goal.returns-in-Err-clause-reach
+returns-in-Err-clause-reach g c =
+    reach_then _ _ c.loop-node.draft _ _ _ _ (grows _ _ _ c.loop-node.draft c.loop-node.invariant.accounts) c.loop-node.invariant.cost
+    (reach_wide _ _ c.loop-node.draft _ _ _ (named_here c.args.nodes.now c.loop-node.node-index c.node-item.result c.loop-node-test.true c.node-item.is) c.in-Err.ensures.reach)

@@ -9,10 +9,11 @@ use Rattle.ax_mirror.specs.declared.draft.Draft.{Draft}
 use Rattle.ax_mirror.specs.Kept.{Keeps}
 use Rattle.ax_mirror.specs.Steps.{Gives, all_taken}
 use Rattle.ax_mirror.specs.Finishes.{Finished, Unfinished}
-use Rattle.ax_mirror.proofs.Tracks.{made_then}
+use Rattle.ax_mirror.proofs.Tracks.{costs_then, made_then}
 use Rattle.ax_mirror.proofs.Updates.{settled_of, missing_same, refused_clear, refused_node, refused_end, gives_trees}
-use Rattle.ax_mirror.specs.Accounts.{Accounts, list_names, lists_id}
+use Rattle.ax_mirror.specs.Accounts.{Accounts, Reaches, list_names, lists_id, names}
 use Rattle.ax_mirror.proofs.Accounts.{acc_update}
+use Rattle.ax_mirror.proofs.Reached.{grows, grow_wide, list_named, reach_done, reach_here, reach_same, reach_then, reach_wide, start_named}
 use Rattle.ax_mirror.proofs.updating.take_update.Goals as goal
 
 abbrev cleared_made : Draft → List ℕ → Draft
@@ -58,3 +59,25 @@ pub returns-in-Ok-finish-clause-accounts : goal.returns-in-Ok-finish-clause-acco
 returns-in-Ok-finish-clause-accounts g c =
     acc_update c.args.update.now c.args.draft.now (cleared_made c.args.draft.now c.clear.new.self) c.start.new.draft c.take_nodes.new.draft refl refl c.in-Ok.ensures.accounts
     (subst (λ (us : List NodeData). Accounts (list_names us) (lists_id us) c.start.new.draft c.take_nodes.new.draft) c.as_slice.ensures c.in-Ok-take_nodes.ensures.accounts)
+
+pub returns-in-Some-clause-reach : goal.returns-in-Some-clause-reach
+returns-in-Some-clause-reach g c = reach_here _ _ _ _ refl
+
+pub returns-in-Err-clause-reach : goal.returns-in-Err-clause-reach
+returns-in-Err-clause-reach g c =
+    reach_same _ _ (cleared_made c.args.draft.now c.clear.new.self) _ _ _ refl refl (reach_wide _ (names c.args.update.now) _ _ _ _ (start_named c.args.update.now) c.in-Err.ensures.reach)
+
+pub returns-in-Err-take_nodes-clause-reach : goal.returns-in-Err-take_nodes-clause-reach
+returns-in-Err-take_nodes-clause-reach g c =
+    reach_same _ _ (cleared_made c.args.draft.now c.clear.new.self) _ _ _ refl refl
+    (reach_then _ _ c.start.new.draft _ _ _ _
+    (grow_wide _ (names c.args.update.now) _ c.start.new.draft (start_named c.args.update.now) (grows _ _ _ c.start.new.draft c.in-Ok.ensures.accounts)) c.in-Ok.ensures.cost
+    (reach_wide _ (names c.args.update.now) _ _ _ _ (list_named c.args.update.now)
+    (subst (λ (us : List NodeData). Reaches (list_names us) c.start.new.draft c.take_nodes.new.draft c.start.new.steps c.take_nodes.new.steps) c.as_slice.ensures c.in-Err-take_nodes.ensures.reach)))
+
+pub returns-in-Err-finish-clause-reach : goal.returns-in-Err-finish-clause-reach
+returns-in-Err-finish-clause-reach g c =
+    reach_done _ _ c.take_nodes.new.draft _ _ _ refl
+    (grows _ _ _ _ (acc_update c.args.update.now c.args.draft.now (cleared_made c.args.draft.now c.clear.new.self) c.start.new.draft c.take_nodes.new.draft refl refl c.in-Ok.ensures.accounts
+    (subst (λ (us : List NodeData). Accounts (list_names us) (lists_id us) c.start.new.draft c.take_nodes.new.draft) c.as_slice.ensures c.in-Ok-take_nodes.ensures.accounts)))
+    (costs_then _ _ _ _ _ _ c.in-Ok.ensures.cost c.in-Ok-take_nodes.ensures.cost)

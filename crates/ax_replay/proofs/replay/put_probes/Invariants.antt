@@ -1,5 +1,5 @@
 use Rattle.std.proofs.Common.{◌≡◌, ◌++◌, drop}
-use Rattle.ax_rules.specs.LineText.{lines_text}
+use Rattle.ax_run_rules.specs.LineText.{lines_text}
 use Rattle.ax_replay.specs.Replay.{probe_lines}
 use Rattle.ax_replay.proofs.replay.put_probes.Given as goal
 

@@ -1,7 +1,7 @@
 use Rattle.std.proofs.Common.{◌≡◌, ◌++◌, take}
 use Rattle.std.specs.List.{flat_map, enumerate_from}
 use Rattle.ax_rules.specs.Stitched.{stitched}
-use Rattle.ax_rules.specs.CombineText.{node_line}
+use Rattle.ax_run_rules.specs.CombineText.{node_line}
 use Rattle.ax_report.proofs.combined.put_rows.Given as goal
 
 abbrev pub invariant-loop-at : goal.invariant-loop-at

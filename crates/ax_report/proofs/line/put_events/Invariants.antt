@@ -1,6 +1,6 @@
 use Rattle.std.proofs.Common.{◌≡◌, ◌++◌, take}
 use Rattle.std.specs.List.{flat_map}
-use Rattle.ax_rules.specs.LineText.{event_line}
+use Rattle.ax_run_rules.specs.LineText.{event_line}
 use Rattle.ax_report.proofs.line.put_events.Given as goal
 
 abbrev pub invariant-loop-event : goal.invariant-loop-event

@@ -1,6 +1,6 @@
 use Rattle.std.proofs.Common.{◌≡◌, ◌++◌, take}
 use Rattle.std.specs.List.{flat_map}
-use Rattle.ax_rules.specs.Dump.{attr_text}
+use Rattle.ax_run_rules.specs.Dump.{attr_text}
 use Rattle.ax_report.proofs.node.put_attrs.Given as goal
 
 abbrev pub invariant-loop-attr : goal.invariant-loop-attr

@@ -1,6 +1,6 @@
 use Rattle.std.proofs.Common.{◌≡◌, ◌++◌, take}
 use Rattle.std.specs.List.{flat_map}
-use Rattle.ax_rules.specs.Dump.{state_text}
+use Rattle.ax_run_rules.specs.Dump.{state_text}
 use Rattle.ax_report.proofs.node.put_states.Given as goal
 
 abbrev pub invariant-loop-state : goal.invariant-loop-state

@@ -1,6 +1,6 @@
 use Rattle.std.proofs.Common.{◌≡◌, ap, ◌∙◌, arith, flat_map, encode_utf8_all}
 use Rattle.std.proofs.lemmas.Grind.{common_steps}
-use Rattle.ax_rules.specs.Writing.{quoted_scalar}
+use Rattle.ax_run_rules.specs.Writing.{quoted_scalar}
 use Rattle.ax_report.specs.Strings.{byte_text}
 use Rattle.ax_report.proofs.StringLemmas.{escaped_bytes}
 use Rattle.ax_report.proofs.put.put_scalars.Goals as goal

@@ -1,5 +1,5 @@
 use Rattle.std.proofs.Common.{refl, sym, ap, ◌∙◌}
-use Rattle.ax_client.specs.MarkList.{without}
+use Rattle.ax_marks.specs.MarkList.{without}
 use Rattle.ax_source.proofs.MarkLists.{less-begin, less-step}
 use Rattle.ax_source.proofs.marking.unmark_all.Goals as goal
 

@@ -3,4 +3,4 @@ use Rattle.std.proofs.lemmas.Str.{chars_from_encodes}
 use Rattle.ax_base.proofs.text.Text.len.Goals as goal
 
 pub returns : goal.returns
-returns c = rw (← c.self.view_is) (search (rules, chars_from_encodes))
+returns c = rw (← c.as_str.ensures) (search (rules, chars_from_encodes))

@@ -1,7 +1,7 @@
-use Rattle.std.proofs.Common.{ap}
+use Rattle.std.proofs.Common.{refl}
 use Rattle.std.specs.Str.{chars}
 use Rattle.ax_base.proofs.text.Text.new.Goals as goal
 
 pub returns : goal.returns
 unfolding chars
-returns c = ap chars c.new.ensures.bytes
+returns c = refl

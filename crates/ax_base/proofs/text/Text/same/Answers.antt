@@ -14,6 +14,6 @@ pub returns : goal.returns
 returns c =
     let alike : c.eq.result ≡ true → c.as_str.result.now ≡ c.as_str-2.result.now = search (rules, bytes_eq-Decides) in
     let back : c.as_str.result.now ≡ c.as_str-2.result.now → c.eq.result ≡ true = search (rules, bytes_eq-Decides) in (
-      λ t. sym c.self.view_is ∙ ap chars (sym c.as_str.ensures.value ∙ alike t ∙ c.as_str-2.ensures.value) ∙ c.other.view_is,
-      λ e. back (told_by_chars _ _ c.as_str.utf8 c.as_str-2.utf8 (ap chars c.as_str.ensures.value ∙ c.self.view_is ∙ e ∙ sym c.other.view_is ∙ ap chars (sym c.as_str-2.ensures.value))),
+      λ t. sym c.as_str.ensures ∙ ap chars (alike t) ∙ c.as_str-2.ensures,
+      λ e. back (told_by_chars _ _ c.as_str.utf8 c.as_str-2.utf8 (c.as_str.ensures ∙ e ∙ sym c.as_str-2.ensures)),
     )

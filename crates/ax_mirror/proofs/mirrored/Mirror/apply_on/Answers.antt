@@ -7,6 +7,9 @@ use Rattle.ax_mirror.specs.Kept.{shown}
 use Rattle.ax_mirror.specs.Mirrors.{with_about, NamesChanges, BrokenAs, Applies, IsBroken}
 use Rattle.ax_mirror.specs.Accounts.{NamesOnly, TouchesOnly}
 use Rattle.ax_mirror.proofs.Bundles.{mirror_holds, mirror_is, mirror_names, mirror_only, mirror_broken}
+use Rattle.std.proofs.Common.{◌+◌, take}
+use Rattle.ax_mirror.specs.Accounts.{Reaches, all_names}
+use Rattle.ax_mirror.proofs.Reached.{no_steps, spent_on}
 use Rattle.ax_mirror.proofs.mirrored.Mirror.apply_on.Goals as goal
 
 pub invariant_of-self : goal.invariant_of-self
@@ -31,3 +34,15 @@ returns-clause-cost g c =
 pub returns-clause-only : goal.returns-clause-only
 returns-clause-only g c = subst (λ (t : Tree). NamesOnly c.args.bundle.now t (with_about c.take_all.new.about (shown c.take_all.new.draft.nodes c.take_all.new.draft.root)) c.take_all.new.draft.touched) (ap (λ (a : TreeData). with_about a (shown c.self.inside.nodes c.self.inside.root)) c.in-Ok-share.ensures ∙ c.self.view_is)
     (mirror_only c.self.inside.nodes c.self.inside.root c.in-Ok-share.about c.self.invariant c.in-Ok.draft c.take_all.new.draft c.take_all.new.about (λ t. applied_all c.args.bundle.now t) c.in-Ok.ensures.0 c.in-Ok.ensures.1 (subst (λ (us : List TreeUpdate). Applies (λ t. applied_all us t) c.in-Ok.draft c.in-Ok-share.about c.take_all.new.draft c.take_all.new.about) c.as_slice.ensures c.in-Ok-take_all.ensures.ok) c.args.bundle.now (subst (λ (us : List TreeUpdate). TouchesOnly us c.in-Ok.draft c.take_all.new.draft) c.as_slice.ensures c.in-Ok-take_all.ensures.only) c.in-Ok.ensures.2)
+
+pub returns-in_default-clause-spent : goal.returns-in_default-clause-spent
+returns-in_default-clause-spent g c = no_steps _ _ _
+
+pub returns-in_default-share-clause-spent : goal.returns-in_default-share-clause-spent
+returns-in_default-share-clause-spent g c = no_steps _ _ _
+
+pub returns-in-Err-clause-spent : goal.returns-in-Err-clause-spent
+returns-in-Err-clause-spent g c =
+    spent_on _ c.args.self.now c.self.inside.nodes c.self.inside.root c.in-Ok.draft c.take_all.new.draft _ _ c.self.invariant (ap (λ (t : Tree). t.trees) c.self.view_is) c.in-Ok.ensures.0 c.in-Ok.ensures.2
+    (subst (λ (us : List TreeUpdate). Reaches (all_names (take (c.in-Err.refusal.at + 1) us)) c.in-Ok.draft c.take_all.new.draft c.args.steps.now c.take_all.new.steps) c.as_slice.ensures c.in-Err.ensures.reach)
+    c.in-Err.ensures.once

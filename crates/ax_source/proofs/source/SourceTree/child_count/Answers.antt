@@ -1,5 +1,5 @@
 use Rattle.std.proofs.Common.{List, ℕ, length, sym, ap, ◌∙◌}
-use Rattle.ax_store.proofs.Walking.{children_from, no_children}
+use Rattle.ax_views.proofs.Walking.{children_from, no_children}
 use Rattle.ax_source.proofs.source.SourceTree.child_count.Goals as goal
 
 pub returns-in-Some : goal.returns-in-Some

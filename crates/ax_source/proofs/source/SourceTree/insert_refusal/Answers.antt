@@ -17,8 +17,8 @@ returns-then-count-gt-MOST_NODES c =
     let b : has f c.args.parent ≡ true = sym c.if-not-holds.ensures in
     let n : has f c.args.node.now.id ≡ false = sym c.if-holds.ensures in
     let w : c.args.index ≤ length (children f c.args.parent) = omega (arith, c.child_count-len.ensures) in
-    let m : 100000 < count f + 1 = omega (arith, c.count-count.ensures, c.if-count-gt-MOST_NODES.true) in
-    ap (λ (x : ℕ). Some (TooMany (x + 1))) c.count-count.ensures ∙ sym (ap (λ (o : Option EditErr). or_else o None) (insert_many c.args.parent c.args.index c.args.node.now.id (look_of c.args.node.now) f a b n w m))
+    let m : 100000 < count f + 1 = omega (arith, c.count-count.ensures.count, c.if-count-gt-MOST_NODES.true) in
+    ap (λ (x : ℕ). Some (TooMany (x + 1))) c.count-count.ensures.count ∙ sym (ap (λ (o : Option EditErr). or_else o None) (insert_many c.args.parent c.args.index c.args.node.now.id (look_of c.args.node.now) f a b n w m))
 
 pub overflow_add-deep : goal.overflow_add-deep
 overflow_add-deep c =
@@ -33,7 +33,7 @@ returns-then-deep-gt-DEEPEST c =
     let b : has f c.args.parent ≡ true = sym c.if-not-holds.ensures in
     let n : has f c.args.node.now.id ≡ false = sym c.if-holds.ensures in
     let w : c.args.index ≤ length (children f c.args.parent) = omega (arith, c.child_count-len.ensures) in
-    let m : count f + 1 ≤ 100000 = omega (arith, c.count-count.ensures, c.if-count-gt-MOST_NODES.false) in
+    let m : count f + 1 ≤ 100000 = omega (arith, c.count-count.ensures.count, c.if-count-gt-MOST_NODES.false) in
     let d : 256 < depth f c.args.parent + 1 = omega (arith, c.depth-deep.ensures, c.if-deep-gt-DEEPEST.true) in
     ap (λ (x : ℕ). Some (TooDeep (x + 1))) c.depth-deep.ensures ∙ sym (ap (λ (o : Option EditErr). or_else o None) (insert_deep c.args.parent c.args.index c.args.node.now.id (look_of c.args.node.now) f a b n w m k.keeps.low d))
 
@@ -45,6 +45,6 @@ returns c =
     let b : has f c.args.parent ≡ true = sym c.if-not-holds.ensures in
     let n : has f c.args.node.now.id ≡ false = sym c.if-holds.ensures in
     let w : c.args.index ≤ length (children f c.args.parent) = omega (arith, c.child_count-len.ensures) in
-    let m : count f + 1 ≤ 100000 = omega (arith, c.count-count.ensures, c.if-count-gt-MOST_NODES.false) in
+    let m : count f + 1 ≤ 100000 = omega (arith, c.count-count.ensures.count, c.if-count-gt-MOST_NODES.false) in
     let d : depth f c.args.parent + 1 ≤ 256 = omega (arith, c.depth-deep.ensures, c.if-deep-gt-DEEPEST.false) in
     sym (ap (λ (o : Option EditErr). or_else o None) (insert_fits c.args.parent c.args.index c.args.node.now.id (look_of c.args.node.now) f a b n w m k.keeps.low d))

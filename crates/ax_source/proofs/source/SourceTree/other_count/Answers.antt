@@ -1,6 +1,6 @@
 use Rattle.std.proofs.Common.{List, ℕ, length, not, eqb, sym, ap, ◌∙◌}
 use Rattle.std.specs.Prelude.{filter}
-use Rattle.ax_store.proofs.Walking.{children_from, no_children}
+use Rattle.ax_views.proofs.Walking.{children_from, no_children}
 use Rattle.ax_source.proofs.source.SourceTree.other_count.Goals as goal
 
 pub returns-in-Some : goal.returns-in-Some

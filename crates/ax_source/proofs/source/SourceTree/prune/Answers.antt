@@ -3,7 +3,7 @@ use Rattle.std.proofs.lemmas.Bool.{false≢true}
 use Rattle.ax_trees.specs.Changes.{pruned}
 use Rattle.ax_trees.proofs.Trees.{not_root}
 use Rattle.ax_tree.specs.MarkRule.{add_mark}
-use Rattle.ax_store.proofs.Climbing.{root_from_none}
+use Rattle.ax_views.proofs.Climbing.{root_from_none}
 use Rattle.ax_source.specs.Source.{Source}
 use Rattle.ax_source.specs.Marking.{less}
 use Rattle.ax_source.specs.Changes.{child_dropped}

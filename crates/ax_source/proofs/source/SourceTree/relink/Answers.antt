@@ -4,7 +4,7 @@ use Rattle.ax_trees.specs.Changes.{with_below, planted, pruned}
 use Rattle.ax_trees.specs.Nodes.{tree_at}
 use Rattle.ax_trees.proofs.Trees.{not_root}
 use Rattle.ax_tree.specs.MarkRule.{add_marks}
-use Rattle.ax_store.proofs.Climbing.{root_from_none}
+use Rattle.ax_views.proofs.Climbing.{root_from_none}
 use Rattle.ax_source.specs.Source.{Source}
 use Rattle.ax_source.proofs.Allowed.{may_move, first_none}
 use Rattle.ax_source.proofs.Edited.{move_source, move_marks, listed_there, place_there}

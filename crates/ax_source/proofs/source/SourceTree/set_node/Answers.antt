@@ -1,6 +1,6 @@
 use Rattle.std.proofs.Common.{sym, ◌∙◌}
 use Rattle.std.proofs.lemmas.Bool.{false≢true}
-use Rattle.ax_store.proofs.Walking.{absent_from}
+use Rattle.ax_views.proofs.Walking.{absent_from}
 use Rattle.ax_tree.specs.Edits.{look_set}
 use Rattle.ax_source.proofs.Allowed.{may_change, first_none}
 use Rattle.ax_source.proofs.source.SourceTree.set_node.Goals as goal

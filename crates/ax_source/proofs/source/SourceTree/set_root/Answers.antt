@@ -2,7 +2,7 @@ use Rattle.std.proofs.Common.{◌≡◌, ◌∷◌, [], List, ℕ, Some, None, c
 use Rattle.std.specs.Map.{lookup}
 use Rattle.ax_node.specs.Look.{look_of}
 use Rattle.ax_node.specs.declared.node.NodeData.{NodeData}
-use Rattle.ax_client.specs.MarkList.{added}
+use Rattle.ax_marks.specs.MarkList.{added}
 use Rattle.ax_trees.specs.Trees.{bare, tree}
 use Rattle.ax_source.specs.Source.{Source}
 use Rattle.ax_source.proofs.Edited.{root_source}

@@ -1,0 +1,11 @@
+pub mod Ends
+pub mod Turns
+pub mod Asks
+pub mod Catches
+pub mod Queries
+pub mod Whole
+pub mod Resumed
+pub mod Gapless
+pub mod CatchingUp
+pub mod ToCome
+pub mod Example

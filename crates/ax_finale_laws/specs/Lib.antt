@@ -1,0 +1,4 @@
+pub mod Laws
+pub mod Resumed
+pub mod Gaps
+pub mod CatchingUp

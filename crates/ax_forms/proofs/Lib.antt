@@ -1,0 +1,3 @@
+pub mod Attrs
+pub mod Under
+pub mod Leaves

@@ -1,4 +1,0 @@
-use Rattle.ax_pages.proofs.tests.an_erased_value_stays_in_the_share.Given as goal
-
-abbrev pub ghosts-erased : goal.ghosts-erased
-ghosts-erased g a = record { name = a.blank.name; parts = a.blank.parts }

@@ -1,5 +1,0 @@
-use Rattle.ax_rules.proofs.Going.{run_on}
-use Rattle.ax_rules.proofs.each_run_goes_on.Goals as goal
-
-pub returns : goal.returns
-returns c = λ front back from at to h k. run_on front back from at to h k

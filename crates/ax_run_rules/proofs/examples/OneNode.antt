@@ -1,0 +1,29 @@
+-- A frame of one node: its pass, its receipt and its dump.
+use Rattle.std.proofs.Common.{◌≡◌, [], ◌∷◌, ◌++◌, refl, Some}
+use Rattle.std.specs.Prelude.{codes}
+use Rattle.ax_ask.specs.declared.op.FrameOp.TheVariants as ops
+use Rattle.ax_run_rules.specs.Scripts.{Script}
+use Rattle.ax_run_rules.specs.ReplayText.{replay_text}
+use Rattle.ax_run_rules.proofs.Computing.{computing}
+use Rattle.ax_run_rules.proofs.ScriptWords.{blank, root, frame, frames}
+
+abbrev pub script : Script
+script = frames (
+    frame 1 (
+    root (blank 1) ∷
+    ops.Pass ∷
+    []) ∷
+    [])
+
+the_text : replay_text script script.order ≡ Some (
+    codes "finale\n" ++
+    codes "f1 root 1 ok\n" ++
+    codes "f1 pass 1 base 0 token 0\n" ++
+    codes "  u clear 0 root 1 list 1 data\n" ++
+    codes "a1 applied 1\n" ++
+    codes "  e 1:1 subtree_created\n" ++
+    codes "dump\n" ++
+    codes "tree 1 parent 0 focused 0 loaded no focus 0 sel 0 0 0 0 title \"\" url \"\"\n" ++
+    codes "1 generic\n")
+unfolding computing
+the_text = refl

@@ -1,0 +1,17 @@
+pub mod Replies
+pub mod Scripts
+pub mod States
+pub mod FrameSteps
+pub mod Steps
+pub mod Finale
+pub mod Actions
+pub mod Fair
+pub mod Taken
+pub mod Writing
+pub mod ReplyText
+pub mod LineText
+pub mod Dump
+pub mod ReplayText
+pub mod CombineText
+pub mod ActText
+pub mod Laws

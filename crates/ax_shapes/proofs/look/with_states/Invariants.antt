@@ -1,6 +1,0 @@
-use Rattle.std.proofs.Common.{◌≡◌, [], drop}
-use Rattle.ax_shapes.specs.Looks.{with_states}
-use Rattle.ax_shapes.proofs.look.with_states.Given as goal
-
-abbrev pub invariant-loop-state : goal.invariant-loop-state
-invariant-loop-state l = with_states l.set (drop l.state-index l.states) ≡ with_states [] l.states

@@ -1,0 +1,290 @@
+//! `calm_main` over sources and sinks in memory.
+ghost use Rattle.std.specs.Prelude.{◌≤◌, None};
+
+use ax_base::Text;
+use ax_io::{Failed, MemSink, MemSource, Source};
+use ax_top::{Status, calm_main};
+use std::alloc::Global;
+use std::test::Fail;
+
+const FIRST: &[u8] =
+    b"{\"version\":1,\"frames\":[{\"tree\":1,\"ops\":[{\"op\":\"root\",\"node\":1},{\"op\":\"pass\"}]}]}";
+
+const FIRST_TEXT: &[u8] =
+    b"finale\nf1 root 1 ok\nf1 pass 1 base 0 token 0\n  u clear 0 root 1 list 1 data\na1 applied 1\ndump\ntree 1 parent 0 focused 0 loaded no focus 0 sel 0 0 0 0 title \"\" url \"\"\n1 generic\n";
+
+fn texts(alloc: Global, words: &[&str]) -> Result<Vec<Text>, Fail> {
+    let mut texts = Vec::new(alloc);
+    for word in words {
+        texts.push(Text::of(alloc, word).map_err(|_| Fail::from("memory"))?)?;
+    }
+    Ok(texts)
+}
+
+fn sink(alloc: Global, chunk: usize, failing: Vec<u64>) -> Result<MemSink, Fail>
+    requires { 1 ≤ chunk }
+{
+    MemSink::new(alloc, 4096, chunk, failing).map_err(|_| Fail::from("memory"))
+}
+
+/// Runs `replay` on a script, and gives its status and what it wrote.
+fn replayed(alloc: Global, script: &[u8]) -> Result<(Status, Vec<u8>), Fail> {
+    let words = texts(alloc, &["replay"])?;
+    let mut src = MemSource::new(script.to_vec(alloc)?, 7, Vec::new(alloc));
+    let mut out = sink(alloc, 8, Vec::new(alloc))?;
+    let status = calm_main(alloc, &words, &mut src, &mut out);
+    Ok((status, out.held().to_vec(alloc)?))
+}
+
+/// Scripts and their texts, which come from a reference written apart. The last one has each kind of value and all tree data.
+const REPLAYED: [(&str, &str); 20] = [
+    (
+        "{\"version\":1,\"frames\":[{\"tree\":1,\"ops\":[{\"op\":\"root\",\"node\":1},{\"op\":\"pass\"}]}]}",
+        "finale\nf1 root 1 ok\nf1 pass 1 base 0 token 0\n  u clear 0 root 1 list 1 data\na1 applied 1\ndump\ntree 1 parent 0 focused 0 loaded no focus 0 sel 0 0 0 0 title \"\" url \"\"\n1 generic\n",
+    ),
+    (
+        "{\"version\":1,\"frames\":[{\"tree\":1,\"ops\":[{\"op\":\"root\",\"node\":1},{\"op\":\"insert\",\"parent\":1,\"index\":0,\"node\":2},{\"op\":\"insert\",\"parent\":1,\"index\":1,\"node\":3},{\"op\":\"insert\",\"parent\":1,\"index\":2,\"node\":4},{\"op\":\"insert\",\"parent\":1,\"index\":3,\"node\":5},{\"op\":\"pass\"},{\"op\":\"remove\",\"node\":2},{\"op\":\"insert\",\"parent\":1,\"index\":3,\"node\":6},{\"op\":\"pass\"}]}]}",
+        "finale\nf1 root 1 ok\nf1 insert 2 ok\nf1 insert 3 ok\nf1 insert 4 ok\nf1 insert 5 ok\nf1 pass 1 base 0 token 0\n  u clear 0 root 1 list 1 2 3 4 5 data\nf1 remove 2 ok\nf1 insert 6 ok\nf1 pass 2 base 0 token 0\n  u clear 0 root 1 list 1 3 4 5 6 data\na1 applied 1\na1 applied 2\ndump\ntree 1 parent 0 focused 0 loaded no focus 0 sel 0 0 0 0 title \"\" url \"\"\n1 generic\n  3 generic\n  4 generic\n  5 generic\n  6 generic\n",
+    ),
+    (
+        "{\"version\":1,\"frames\":[{\"tree\":1,\"ops\":[{\"op\":\"root\",\"node\":1},{\"op\":\"pass\"},{\"op\":\"pass\"}]}]}",
+        "finale\nf1 root 1 ok\nf1 pass 1 base 0 token 0\n  u clear 0 root 1 list 1 data\nf1 pass nothing\na1 applied 1\ndump\ntree 1 parent 0 focused 0 loaded no focus 0 sel 0 0 0 0 title \"\" url \"\"\n1 generic\n",
+    ),
+    (
+        "{\"version\":1,\"frames\":[{\"tree\":1,\"ops\":[]}]}",
+        "finale\ndump\ntree 1 empty\n",
+    ),
+    (
+        "{\"version\":1,\"frames\":[{\"tree\":1,\"ops\":[{\"op\":\"root\",\"node\":1},{\"op\":\"insert\",\"parent\":1,\"index\":0,\"node\":2},{\"op\":\"insert\",\"parent\":1,\"index\":1,\"node\":3},{\"op\":\"insert\",\"parent\":2,\"index\":0,\"node\":4},{\"op\":\"pass\"},{\"op\":\"move\",\"node\":4,\"parent\":3,\"index\":0},{\"op\":\"pass\"}]}]}",
+        "finale\nf1 root 1 ok\nf1 insert 2 ok\nf1 insert 3 ok\nf1 insert 4 ok\nf1 pass 1 base 0 token 0\n  u clear 0 root 1 list 1 2 4 3 data\nf1 move 4 ok\nf1 pass 2 base 0 token 0\n  u clear 0 root 1 list 1 2 3 4 data\na1 applied 1\na1 applied 2\ndump\ntree 1 parent 0 focused 0 loaded no focus 0 sel 0 0 0 0 title \"\" url \"\"\n1 generic\n  2 generic\n  3 generic\n    4 generic\n",
+    ),
+    (
+        "{\"version\":1,\"frames\":[{\"tree\":1,\"ops\":[{\"op\":\"root\",\"node\":1},{\"op\":\"insert\",\"parent\":1,\"index\":0,\"node\":2},{\"op\":\"insert\",\"parent\":1,\"index\":1,\"node\":3},{\"op\":\"insert\",\"parent\":2,\"index\":0,\"node\":4},{\"op\":\"pass\"},{\"op\":\"set\",\"node\":3,\"attrs\":{\"name\":\"x\"}},{\"op\":\"move\",\"node\":4,\"parent\":3,\"index\":0},{\"op\":\"pass\"}]}]}",
+        "finale\nf1 root 1 ok\nf1 insert 2 ok\nf1 insert 3 ok\nf1 insert 4 ok\nf1 pass 1 base 0 token 0\n  u clear 0 root 1 list 1 2 4 3 data\nf1 set 3 ok\nf1 move 4 ok\nf1 pass 2 base 0 token 0\n  u clear 0 root 1 list 1 2 3 4 data\na1 applied 1\na1 applied 2\ndump\ntree 1 parent 0 focused 0 loaded no focus 0 sel 0 0 0 0 title \"\" url \"\"\n1 generic\n  2 generic\n  3 generic name=\"x\"\n    4 generic\n",
+    ),
+    (
+        "{\"version\":1,\"frames\":[{\"tree\":1,\"ops\":[{\"op\":\"root\",\"node\":1},{\"op\":\"insert\",\"parent\":1,\"index\":0,\"node\":2},{\"op\":\"pass\"},{\"op\":\"remove\",\"node\":2},{\"op\":\"insert\",\"parent\":1,\"index\":0,\"node\":2,\"role\":\"button\"},{\"op\":\"pass\"}]}]}",
+        "finale\nf1 root 1 ok\nf1 insert 2 ok\nf1 pass 1 base 0 token 0\n  u clear 0 root 1 list 1 2 data\nf1 remove 2 ok\nf1 insert 2 ok\nf1 pass 2 base 0 token 0\n  u clear 0 root 1 list 1 2 data\na1 applied 1\na1 applied 2\ndump\ntree 1 parent 0 focused 0 loaded no focus 0 sel 0 0 0 0 title \"\" url \"\"\n1 generic\n  2 button\n",
+    ),
+    (
+        "{\"version\":1,\"frames\":[{\"tree\":1,\"ops\":[{\"op\":\"root\",\"node\":1},{\"op\":\"insert\",\"parent\":1,\"index\":0,\"node\":2},{\"op\":\"insert\",\"parent\":1,\"index\":1,\"node\":7},{\"op\":\"insert\",\"parent\":2,\"index\":0,\"node\":3},{\"op\":\"insert\",\"parent\":2,\"index\":1,\"node\":6},{\"op\":\"insert\",\"parent\":3,\"index\":0,\"node\":4},{\"op\":\"insert\",\"parent\":6,\"index\":0,\"node\":5},{\"op\":\"insert\",\"parent\":7,\"index\":0,\"node\":8},{\"op\":\"pass\"},{\"op\":\"set\",\"node\":4,\"attrs\":{\"name\":\"x\"}},{\"op\":\"move\",\"node\":5,\"parent\":4,\"index\":0},{\"op\":\"move\",\"node\":8,\"parent\":6,\"index\":0},{\"op\":\"pass\"}]}]}",
+        "finale\nf1 root 1 ok\nf1 insert 2 ok\nf1 insert 7 ok\nf1 insert 3 ok\nf1 insert 6 ok\nf1 insert 4 ok\nf1 insert 5 ok\nf1 insert 8 ok\nf1 pass 1 base 0 token 0\n  u clear 0 root 1 list 1 2 3 4 6 5 7 8 data\nf1 set 4 ok\nf1 move 5 ok\nf1 move 8 ok\nf1 pass 2 base 0 token 0\n  u clear 0 root 1 list 1 2 3 4 5 6 8 7 data\na1 applied 1\na1 applied 2\ndump\ntree 1 parent 0 focused 0 loaded no focus 0 sel 0 0 0 0 title \"\" url \"\"\n1 generic\n  2 generic\n    3 generic\n      4 generic name=\"x\"\n        5 generic\n    6 generic\n      8 generic\n  7 generic\n",
+    ),
+    (
+        "{\"version\":1,\"frames\":[{\"tree\":1,\"ops\":[{\"op\":\"root\",\"node\":1},{\"op\":\"insert\",\"parent\":1,\"index\":0,\"node\":2},{\"op\":\"insert\",\"parent\":1,\"index\":1,\"node\":3},{\"op\":\"pass\"},{\"op\":\"root\",\"node\":3},{\"op\":\"insert\",\"parent\":3,\"index\":0,\"node\":1},{\"op\":\"pass\"}]}]}",
+        "finale\nf1 root 1 ok\nf1 insert 2 ok\nf1 insert 3 ok\nf1 pass 1 base 0 token 0\n  u clear 0 root 1 list 1 2 3 data\nf1 root 3 ok\nf1 insert 1 ok\nf1 pass 2 base 0 token 0\n  u clear 0 root 3 list 3 1 data\na1 applied 1\na1 applied 2\ndump\ntree 1 parent 0 focused 0 loaded no focus 0 sel 0 0 0 0 title \"\" url \"\"\n3 generic\n  1 generic\n",
+    ),
+    (
+        "{\"version\":1,\"frames\":[{\"tree\":1,\"ops\":[{\"op\":\"root\",\"node\":1},{\"op\":\"insert\",\"parent\":1,\"index\":0,\"node\":2},{\"op\":\"insert\",\"parent\":1,\"index\":1,\"node\":3},{\"op\":\"insert\",\"parent\":3,\"index\":0,\"node\":4},{\"op\":\"pass\"}]}],\"browser\":[{\"op\":\"probe\",\"tree\":1,\"update\":{\"nodes\":[{\"node\":1,\"children\":[2,3,9]}]}},{\"op\":\"probe\",\"tree\":1,\"update\":{\"nodes\":[{\"node\":2,\"children\":[4]}]}},{\"op\":\"probe\",\"tree\":1,\"update\":{\"nodes\":[{\"node\":1,\"children\":[2,2]}]}},{\"op\":\"probe\",\"tree\":1,\"update\":{\"clear\":9,\"nodes\":[]}},{\"op\":\"probe\",\"tree\":1,\"update\":{\"clear\":3,\"nodes\":[]}},{\"op\":\"probe\",\"tree\":1,\"update\":{\"nodes\":[{\"node\":9}]}}]}",
+        "finale\nf1 root 1 ok\nf1 insert 2 ok\nf1 insert 3 ok\nf1 insert 4 ok\nf1 pass 1 base 0 token 0\n  u clear 0 root 1 list 1 2 3 4 data\na1 applied 1\nb probe 1 Pending 9\nb probe 1 Reparented 4\nb probe 1 DuplicateChild 2\nb probe 1 BadClear 9\nb probe 1 Pending 3\nb probe 1 NotInTree 9\ndump\ntree 1 parent 0 focused 0 loaded no focus 0 sel 0 0 0 0 title \"\" url \"\"\n1 generic\n  2 generic\n  3 generic\n    4 generic\n",
+    ),
+    (
+        "{\"version\":1,\"frames\":[{\"tree\":1,\"ops\":[{\"op\":\"root\",\"node\":1},{\"op\":\"insert\",\"parent\":1,\"index\":0,\"node\":2},{\"op\":\"insert\",\"parent\":1,\"index\":1,\"node\":3},{\"op\":\"insert\",\"parent\":3,\"index\":0,\"node\":4},{\"op\":\"pass\"}]}],\"browser\":[{\"op\":\"probe\",\"tree\":1,\"update\":{\"nodes\":[{\"node\":1,\"children\":[2]},{\"node\":2,\"children\":[4]},{\"node\":4}]}}]}",
+        "finale\nf1 root 1 ok\nf1 insert 2 ok\nf1 insert 3 ok\nf1 insert 4 ok\nf1 pass 1 base 0 token 0\n  u clear 0 root 1 list 1 2 3 4 data\na1 applied 1\nb probe 1 accepted 3\ndump\ntree 1 parent 0 focused 0 loaded no focus 0 sel 0 0 0 0 title \"\" url \"\"\n1 generic\n  2 generic\n  3 generic\n    4 generic\n",
+    ),
+    (
+        "{\"version\":1,\"frames\":[{\"tree\":1,\"ops\":[{\"op\":\"remove\",\"node\":1},{\"op\":\"root\",\"node\":1},{\"op\":\"insert\",\"parent\":1,\"index\":0,\"node\":2},{\"op\":\"insert\",\"parent\":9,\"index\":0,\"node\":3},{\"op\":\"insert\",\"parent\":1,\"index\":0,\"node\":2},{\"op\":\"insert\",\"parent\":1,\"index\":5,\"node\":3},{\"op\":\"remove\",\"node\":1},{\"op\":\"move\",\"node\":1,\"parent\":2,\"index\":0},{\"op\":\"move\",\"node\":2,\"parent\":2,\"index\":0},{\"op\":\"touch\",\"node\":9}]}]}",
+        "finale\nf1 remove 1 NoRoot\nf1 root 1 ok\nf1 insert 2 ok\nf1 insert 3 UnknownNode 9\nf1 insert 2 IdTaken 2\nf1 insert 3 BadIndex 5 1\nf1 remove 1 IsRoot 1\nf1 move 1 IsRoot 1\nf1 move 2 IntoItself 2\nf1 touch 9 UnknownNode 9\nb ask 1 token 1\nd1:1\nf1 pass 1 base 0 token 1\n  u clear 0 root 1 list 1 2 data\na1 applied 1\ndump\ntree 1 parent 0 focused 0 loaded no focus 0 sel 0 0 0 0 title \"\" url \"\"\n1 generic\n  2 generic\n",
+    ),
+    (
+        "{\"version\":1,\"frames\":[{\"tree\":1,\"ops\":[{\"op\":\"root\",\"node\":1},{\"op\":\"insert\",\"parent\":1,\"index\":0,\"node\":2},{\"op\":\"pass\"},{\"op\":\"touch\",\"node\":2},{\"op\":\"pass\"}]}]}",
+        "finale\nf1 root 1 ok\nf1 insert 2 ok\nf1 pass 1 base 0 token 0\n  u clear 0 root 1 list 1 2 data\nf1 touch 2 ok\nf1 pass 2 base 0 token 0\n  u clear 0 root 1 list 1 2 data\na1 applied 1\na1 applied 2\ndump\ntree 1 parent 0 focused 0 loaded no focus 0 sel 0 0 0 0 title \"\" url \"\"\n1 generic\n  2 generic\n",
+    ),
+    (
+        "{\"version\":1,\"frames\":[{\"tree\":1,\"ops\":[{\"op\":\"root\",\"node\":1},{\"op\":\"insert\",\"parent\":1,\"index\":0,\"node\":2},{\"op\":\"pass\"},{\"op\":\"touch_below\",\"node\":1},{\"op\":\"pass\"}]}]}",
+        "finale\nf1 root 1 ok\nf1 insert 2 ok\nf1 pass 1 base 0 token 0\n  u clear 0 root 1 list 1 2 data\nf1 touch_below 1 ok\nf1 pass 2 base 0 token 0\n  u clear 0 root 1 list 1 2 data\na1 applied 1\na1 applied 2\ndump\ntree 1 parent 0 focused 0 loaded no focus 0 sel 0 0 0 0 title \"\" url \"\"\n1 generic\n  2 generic\n",
+    ),
+    (
+        "{\"version\":1,\"frames\":[{\"tree\":1,\"ops\":[{\"op\":\"root\",\"node\":1,\"role\":\"button\",\"states\":[\"visited\",\"focusable\"],\"attrs\":{\"level\":3,\"name\":\"a\\\"b\"},\"rect\":[1,2,3,4]},{\"op\":\"pass\"}]}]}",
+        "finale\nf1 root 1 ok\nf1 pass 1 base 0 token 0\n  u clear 0 root 1 list 1 data\na1 applied 1\ndump\ntree 1 parent 0 focused 0 loaded no focus 0 sel 0 0 0 0 title \"\" url \"\"\n1 button [1,2,3,4] +focusable +visited name=\"a\\\"b\" level=3\n",
+    ),
+    (
+        "{\"version\":1,\"frames\":[{\"tree\":1,\"ops\":[{\"op\":\"root\",\"node\":1},{\"op\":\"insert\",\"parent\":1,\"index\":0,\"node\":2},{\"op\":\"insert\",\"parent\":1,\"index\":1,\"node\":3},{\"op\":\"insert\",\"parent\":3,\"index\":0,\"node\":4},{\"op\":\"pass\"}]}],\"browser\":[{\"op\":\"probe\",\"tree\":1,\"update\":{\"nodes\":[]}},{\"op\":\"probe\",\"tree\":1,\"update\":{\"root\":5,\"nodes\":[{\"node\":5}]}},{\"op\":\"probe\",\"tree\":1,\"update\":{\"root\":5,\"nodes\":[]}},{\"op\":\"probe\",\"tree\":1,\"update\":{\"clear\":2,\"root\":9,\"nodes\":[{\"node\":9}]}},{\"op\":\"probe\",\"tree\":1,\"update\":{\"clear\":4,\"root\":1,\"nodes\":[{\"node\":1,\"children\":[2,3]}]}},{\"op\":\"probe\",\"tree\":1,\"update\":{\"nodes\":[{\"node\":1,\"children\":[1]}]}},{\"op\":\"probe\",\"tree\":1,\"update\":{\"nodes\":[{\"node\":1,\"children\":[4,4]}]}},{\"op\":\"probe\",\"tree\":1,\"update\":{\"nodes\":[{\"node\":3},{\"node\":2,\"children\":[4]},{\"node\":4}]}},{\"op\":\"probe\",\"tree\":1,\"update\":{\"nodes\":[{\"node\":2,\"children\":[7]},{\"node\":1,\"children\":[3]}]}}]}",
+        "finale\nf1 root 1 ok\nf1 insert 2 ok\nf1 insert 3 ok\nf1 insert 4 ok\nf1 pass 1 base 0 token 0\n  u clear 0 root 1 list 1 2 3 4 data\na1 applied 1\nb probe 1 accepted 4\nb probe 1 accepted 1\nb probe 1 Pending 5\nb probe 1 accepted 1\nb probe 1 Pending 4\nb probe 1 Reparented 1\nb probe 1 DuplicateChild 4\nb probe 1 accepted 4\nb probe 1 accepted 3\ndump\ntree 1 parent 0 focused 0 loaded no focus 0 sel 0 0 0 0 title \"\" url \"\"\n1 generic\n  2 generic\n  3 generic\n    4 generic\n",
+    ),
+    (
+        "{\"version\":1,\"frames\":[{\"tree\":1,\"ops\":[]}],\"browser\":[{\"op\":\"probe\",\"tree\":1,\"update\":{\"nodes\":[{\"node\":1}]}},{\"op\":\"probe\",\"tree\":1,\"update\":{\"clear\":1,\"nodes\":[]}}]}",
+        "finale\nb probe 1 NotInTree 1\nb probe 1 BadClear 1\ndump\ntree 1 empty\n",
+    ),
+    (
+        "{\"version\":1,\"frames\":[{\"tree\":7,\"ops\":[{\"op\":\"pass\"},{\"op\":\"root\",\"node\":1},{\"op\":\"pass\"},{\"op\":\"pass\"},{\"op\":\"root\",\"node\":5},{\"op\":\"pass\"},{\"op\":\"data\",\"focus\":5}]}]}",
+        "finale\nf7 pass nothing\nf7 root 1 ok\nf7 pass 1 base 0 token 0\n  u clear 0 root 1 list 1 data\nf7 pass nothing\nf7 root 5 ok\nf7 pass 2 base 0 token 0\n  u clear 0 root 5 list 5 data\nf7 data ok\na7 applied 1\na7 applied 2\nb ask 7 token 1\nd7:1\nf7 pass 3 base 0 token 1\n  u clear 0 root 5 list 5 data\na7 applied 3\ndump\ntree 7 parent 0 focused 0 loaded no focus 5 sel 0 0 0 0 title \"\" url \"\"\n5 generic\n",
+    ),
+    (
+        "{\"order\":\"\",\"version\":2,\"readers\":[[]],\"frames\":[{\"tree\":1,\"ops\":[]}],\"actions\":[{\"do\":\"focus\",\"tree\":1,\"node\":1}]}",
+        "finale\ndump\ntree 1 empty\n",
+    ),
+    (
+        "{\"version\":2,\"frames\":[{\"tree\":7,\"ops\":[{\"op\":\"root\",\"node\":9,\"role\":\"root_web_area\",\"rect\":[-5,-2147483648,2147483647,0]},{\"op\":\"insert\",\"parent\":9,\"index\":0,\"node\":4,\"role\":\"checkbox\",\"states\":[\"ignored\"]},{\"op\":\"insert\",\"parent\":9,\"index\":1,\"node\":8,\"role\":\"image\",\"rect\":[0,0,1,0]},{\"op\":\"insert\",\"parent\":9,\"index\":2,\"node\":2147483647,\"role\":\"iframe\",\"rect\":[0,1,0,0],\"attrs\":{\"child_tree\":1}},{\"op\":\"insert\",\"parent\":4,\"index\":0,\"node\":2,\"role\":\"text_field\",\"rect\":[0,0,0,1],\"states\":[\"pressed\",\"visited\",\"collapsed\",\"focusable\"],\"attrs\":{\"scroll_y\":0,\"atomic\":false,\"value_max\":2147483647,\"modal\":true,\"controls\":2147483647,\"level\":-2147483648,\"child_tree\":1000,\"language\":\"\",\"name\":\"\\u00e9\\\"\\\\/\\b\\f\\n\\r\\t\\u0000\\u000b\\u001f \\u007f\\u0080\\u2028\\ud83d\\ude00\"}},{\"op\":\"insert\",\"parent\":2,\"index\":0,\"node\":30,\"role\":\"static_text\"},{\"op\":\"data\",\"parent\":1000,\"focused\":1,\"loaded\":true,\"focus\":30,\"title\":\"\\\"Yes\\\"\",\"url\":\"c:\\\\new\\tpage\",\"sel\":[4,0,30,2147483647]},{\"op\":\"pass\"}]}]}",
+        "finale\nf7 root 9 ok\nf7 insert 4 ok\nf7 insert 8 ok\nf7 insert 2147483647 ok\nf7 insert 2 ok\nf7 insert 30 ok\nf7 data ok\nf7 pass 1 base 0 token 0\n  u clear 0 root 9 list 9 4 2 30 8 2147483647 data\na7 applied 1\ndump\ntree 7 parent 1000 focused 1 loaded yes focus 30 sel 4 0 30 2147483647 title \"\\\"Yes\\\"\" url \"c:\\\\new\\tpage\"\n9 root_web_area [-5,-2147483648,2147483647,0]\n  4 checkbox +ignored\n    2 text_field [0,0,0,1] +focusable +collapsed +visited +pressed name=\"\u{e9}\\\"\\\\/\\b\\f\\n\\r\\t\\u0000\\u000b\\u001f \u{7f}\u{80}\u{2028}\u{1f600}\" language=\"\" child_tree=1000 level=-2147483648 controls=2147483647 modal=yes value_max=2147483647 atomic=no scroll_y=0\n      30 static_text\n  8 image [0,0,1,0]\n  2147483647 iframe [0,1,0,0] child_tree=1\n",
+    ),
+];
+
+#[test]
+fn scripts_are_replayed(rt: HostRuntime) -> Result<(), Fail> {
+    let alloc = rt.alloc();
+    for (script, text) in REPLAYED {
+        let (status, written) = replayed(alloc, script.as_bytes())?;
+        assert_eq!(&rt; status, Status::Ok);
+        assert_eq!(&rt; written.as_slice(), text.as_bytes());
+    }
+    Ok(())
+}
+
+/// Bytes that are no script, and the rest of the line that tells it.
+const GRAMMAR: [(&str, &str); 10] = [
+    ("", "NotJson"),
+    ("{\"version\":1,", "NotJson"),
+    ("{\"x\":1}", "UnknownMember $"),
+    ("{}", "Missing $.version"),
+    ("[]", "BadType $"),
+    ("{\"version\":1,\"frames\":[]}", "BadCount $.frames"),
+    ("{\"version\":1.0}", "BadNumber $.version"),
+    (
+        "{\"version\":1,\"frames\":[{\"tree\":1,\"ops\":[{\"op\":\"touch\",\"node\":1},{\"op\":\"fly\"}]}]}",
+        "BadName $.frames[0].ops[1].op",
+    ),
+    (
+        "{\"version\":1,\"frames\":[{\"tree\":1001,\"ops\":[]}]}",
+        "BadNumber $.frames[0].tree",
+    ),
+    (
+        "{\"version\":1,\"frames\":[{\"tree\":1,\"ops\":[]}],\"order\":\"f1 f2\"}",
+        "BadOrder 2",
+    ),
+];
+
+/// Scripts that the program can't run yet, and the path of the first thing that isn't built.
+const UNBUILT: [(&str, &str); 5] = [
+    (
+        "{\"version\":1,\"frames\":[{\"tree\":1,\"ops\":[{\"op\":\"pass\"}]},{\"tree\":2,\"ops\":[]}],\"browser\":[{\"op\":\"ask\",\"tree\":1}]}",
+        "$.frames[1]",
+    ),
+    (
+        "{\"version\":1,\"frames\":[{\"tree\":1,\"ops\":[]}],\"browser\":[{\"op\":\"probe\",\"tree\":1,\"update\":{\"nodes\":[]}},{\"op\":\"ask\",\"tree\":1}],\"order\":\"b\"}",
+        "$.browser[1].op",
+    ),
+    (
+        "{\"version\":1,\"frames\":[{\"tree\":1,\"ops\":[]}],\"browser\":[{\"op\":\"destroy\",\"tree\":1}]}",
+        "$.browser[0].op",
+    ),
+    (
+        "{\"version\":1,\"frames\":[{\"tree\":1,\"ops\":[]}],\"readers\":[[],[{\"q\":\"focus\"}]],\"order\":\"r2\"}",
+        "$.readers[1][0].q",
+    ),
+    (
+        "{\"version\":1,\"frames\":[{\"tree\":1,\"ops\":[]}],\"browser\":[],\"readers\":[[]],\"order\":\"b\"}",
+        "$.order",
+    ),
+];
+
+#[test]
+fn other_bytes_are_refused(rt: HostRuntime) -> Result<(), Fail> {
+    let alloc = rt.alloc();
+    for (bytes, refusal) in GRAMMAR {
+        let line = format!(in alloc; "script {refusal}\n")?;
+        let (status, text) = replayed(alloc, bytes.as_bytes())?;
+        assert_eq!(&rt; status, Status::Script);
+        assert_eq!(&rt; text.as_slice(), line.as_bytes());
+    }
+    for (bytes, path) in UNBUILT {
+        let line = format!(in alloc; "script NotBuilt {path}\n")?;
+        let (status, text) = replayed(alloc, bytes.as_bytes())?;
+        assert_eq!(&rt; status, Status::Script);
+        assert_eq!(&rt; text.as_slice(), line.as_bytes());
+    }
+    Ok(())
+}
+
+/// A source of so many spaces.
+#[derive(Drop)]
+struct Spaces {
+    left: usize,
+}
+
+impl Source for Spaces {
+    ghost left = { λ _. None };
+
+    ghost fault_count = { λ _. 0 };
+
+    fn read(&mut self, into: &mut [u8]) -> Result<usize, Failed> {
+        let count = into.len().min(self.left);
+        into[..count].fill(32);
+        self.left -= count;
+        Ok(count)
+    }
+
+    fn faults(&self) -> u64 {
+        0
+    }
+}
+
+#[test]
+fn one_byte_too_many_is_refused(rt: HostRuntime) -> Result<(), Fail> {
+    let alloc = rt.alloc();
+    let words = texts(alloc, &["replay"])?;
+    for (left, line) in [
+        (67_108_864, b"script NotJson\n".as_slice()),
+        (67_108_865, b"script TooBig 67108865\n".as_slice()),
+    ] {
+        let mut out = sink(alloc, 4096, Vec::new(alloc))?;
+        let status = calm_main(alloc, &words, &mut Spaces { left }, &mut out);
+        assert_eq!(&rt; status, Status::Script);
+        assert_eq!(&rt; out.held(), line);
+    }
+    Ok(())
+}
+
+#[test]
+fn faults_have_their_status(rt: HostRuntime) -> Result<(), Fail> {
+    let alloc = rt.alloc();
+    let words = texts(alloc, &["replay"])?;
+    let mut src = MemSource::new(FIRST.to_vec(alloc)?, 4096, [1].to_vec(alloc)?);
+    let mut out = sink(alloc, 8, Vec::new(alloc))?;
+    assert_eq!(&rt;
+        calm_main(alloc, &words, &mut src, &mut out),
+        Status::ReadFault
+    );
+    assert!(&rt; out.held().is_empty());
+
+    let mut done = 0;
+    for call in 1..1000u64 {
+        let mut src = MemSource::new(FIRST.to_vec(alloc)?, 4096, Vec::new(alloc));
+        let mut out = sink(alloc, 8, [call].to_vec(alloc)?)?;
+        let status = calm_main(alloc, &words, &mut src, &mut out);
+        if done >= FIRST_TEXT.len() {
+            assert_eq!(&rt; status, Status::Ok);
+            return Ok(());
+        }
+        assert_eq!(&rt; status, Status::WriteFault);
+        assert_eq!(&rt; out.held(), FIRST_TEXT.split_at(done).0);
+        done += 8;
+    }
+    Err(Fail::from("no call was the last"))
+}
+
+/// What words that lead nowhere are answered, over a source whose first read would fail.
+fn told(alloc: Global, words: &[&str]) -> Result<(Status, Vec<u8>), Fail> {
+    let words = texts(alloc, words)?;
+    let mut src = MemSource::new(FIRST.to_vec(alloc)?, 4096, [1].to_vec(alloc)?);
+    let mut out = sink(alloc, 8, Vec::new(alloc))?;
+    let status = calm_main(alloc, &words, &mut src, &mut out);
+    Ok((status, out.held().to_vec(alloc)?))
+}
+
+fn is_usage(answer: &(Status, Vec<u8>)) -> bool {
+    answer.0 == Status::Usage
+        && answer.1.as_slice()
+            == b"usage: ax_tool replay | race | combine | act | gen SEED FRAMES OPS\n".as_slice()
+}
+
+#[test]
+fn other_words_get_the_usage_line(rt: HostRuntime) -> Result<(), Fail> {
+    let alloc = rt.alloc();
+    assert!(&rt; is_usage(&told(alloc, &[])?));
+    assert!(&rt; is_usage(&told(alloc, &["-h"])?));
+    assert!(&rt; is_usage(&told(alloc, &["replay", "x"])?));
+    assert!(&rt; is_usage(&told(alloc, &["race"])?));
+    assert!(&rt; is_usage(&told(alloc, &["gen", "0", "1", "1"])?));
+    Ok(())
+}

@@ -1,5 +1,0 @@
-use Rattle.ax_walk.proofs.Takes.{none_left}
-use Rattle.ax_walk.proofs.object.is_none_left.Goals as goal
-
-pub returns : goal.returns
-returns c = none_left c.args.members.now.entries c.is_empty.result c.is_empty.ensures
