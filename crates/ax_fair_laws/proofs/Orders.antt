@@ -1,5 +1,5 @@
 -- Orders and calls with the same receipts and operations.
-use Rattle.std.proofs.Common.{◌≡◌, ℕ, zero, suc, ◌+◌, Bool, true, false, not, ◌&&◌, cond, List, [], ◌∷◌, ◌++◌, length, map, filter, filter_map, slice_get, Option, Some, None, option_to_list, refl, sym, ap, ◌∙◌, subst, append-nil, append_assoc, arith}
+use Rattle.std.proofs.Common.{◌≡◌, ℕ, suc, ◌+◌, Bool, true, false, not, ◌&&◌, cond, List, [], ◌∷◌, ◌++◌, length, map, filter, slice_get, option_to_list, refl, sym, ap, ◌∙◌, append-nil}
 use Rattle.std.specs.Prelude.{nat_le}
 use Rattle.std.specs.List.{list_any}
 use Rattle.std.proofs.lemmas.List.{map-append}
@@ -7,11 +7,12 @@ use Rattle.std.proofs.lemmas.List.Elements.{filter-append}
 use Rattle.ax_ask.specs.declared.op.TimedOp.{TimedOp}
 use Rattle.ax_ask.specs.declared.op.Item.{Item}
 use Rattle.ax_ask.specs.declared.op.Item.TheVariants as items
-use Rattle.ax_ask.specs.Calls.{BrowserCall, Receive, Do, Deliver}
-use Rattle.ax_workers.specs.Browser.{Called, ops_done, each_follows as calls_follow, is_delivery, is_due as is_due_call, is_receipt as is_receipt_call, may_follow as may_come, op_of, receipts as receipts_of, IsServedToEnd}
+use Rattle.ax_ask.specs.Calls.{Receive, Do, Deliver}
+use Rattle.ax_workers.specs.Browser.{Called, ops_done, each_follows as calls_follow, is_delivery, is_due as is_due_call, is_receipt as is_receipt_call, receipts as receipts_of, IsServedToEnd}
 use Rattle.ax_run_rules.specs.Scripts.{Script}
 use Rattle.ax_run_rules.specs.Fair.{is_receipt, is_browser, is_due, may_follow, next_browser, receipts}
-use Rattle.ax_fair_laws.specs.Laws.{is_entry, receipts_among, receipts_called, entries_follow}
+use Rattle.ax_order_laws.specs.Told.{is_entry}
+use Rattle.ax_fair_laws.specs.Laws.{receipts_among, receipts_called, entries_follow}
 
 -- ---- by the receipts alone
 

@@ -1,10 +1,11 @@
 -- An order is in time by its two parts.
-use Rattle.std.proofs.Common.{◌≡◌, Bool, true, false, ◌&&◌, cond, List, [], ◌∷◌, ◌++◌, refl, sym, ap, ◌∙◌}
+use Rattle.std.proofs.Common.{◌≡◌, Bool, true, false, ◌&&◌, cond, List, [], ◌∷◌, ◌++◌, refl}
 use Rattle.ax_ask.specs.declared.op.Item.{Item}
 use Rattle.ax_ask.specs.declared.op.Item.TheVariants as items
 use Rattle.ax_run_rules.specs.Scripts.{Script}
 use Rattle.ax_run_rules.specs.Fair.{may_follow, each_follows}
-use Rattle.ax_fair_laws.specs.Laws.{is_entry, entries_follow, queries_follow}
+use Rattle.ax_order_laws.specs.Told.{is_entry}
+use Rattle.ax_fair_laws.specs.Laws.{entries_follow, queries_follow}
 
 pub both_parts : (s : Script) (before o : List Item) → entries_follow s before o ≡ true → queries_follow s before o ≡ true → each_follows s before o ≡ true
 both_parts s before [] e q = refl

@@ -1,11 +1,11 @@
 -- What a reader's worker asks.
-use Rattle.std.proofs.Common.{◌≡◌, ℕ, zero, suc, ◌≤◌, ◌<◌, Bool, true, false, not, cond, eqb, List, [], ◌∷◌, length, slice_get, Option, Some, None, refl, sym, ap, ◌∙◌, subst, arith}
+use Rattle.std.proofs.Common.{◌≡◌, ℕ, zero, suc, ◌≤◌, ◌<◌, Bool, true, false, not, cond, eqb, List, [], ◌∷◌, length, slice_get, Option, Some, None, refl, subst, arith}
 use Rattle.std.specs.Option.{IsSomeAnd}
 use Rattle.std.proofs.lemmas.Option.{same_Some}
 use Rattle.ax_ask.specs.declared.query.Query.{Query}
 use Rattle.ax_ask.specs.declared.query.TimedQuery.{TimedQuery}
 use Rattle.ax_ask.specs.declared.line.Line.{Line}
-use Rattle.ax_workers.specs.Reader.{AreAsked, AreFirstAsked}
+use Rattle.ax_workers.specs.Reader.{AreAsked}
 use Rattle.std.proofs.lemmas.Bool.{ne_eqb}
 use Rattle.ax_rules.specs.Sequences.{until}
 use Rattle.ax_run_rules.specs.Fair.{ready_count}

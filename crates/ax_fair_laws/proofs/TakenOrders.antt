@@ -1,5 +1,5 @@
 -- The receipts and operations of the order that a closed hub took.
-use Rattle.std.proofs.Common.{eqb, ◌≡◌, ℕ, zero, suc, ◌+◌, Bool, true, false, List, [], ◌∷◌, ◌++◌, length, map, filter, replicate, refl, sym, ap, ◌∙◌, append-nil}
+use Rattle.std.proofs.Common.{eqb, ◌≡◌, ℕ, zero, suc, ◌+◌, true, List, [], ◌∷◌, ◌++◌, length, map, filter, replicate, refl, ap, ◌∙◌, append-nil}
 use Rattle.std.specs.List.{flat_map, enumerate_from}
 use Rattle.ax_tree.specs.declared.packet.Packet.{Packet}
 use Rattle.ax_tree.specs.declared.packet.JEntry.{JEntry}
@@ -9,7 +9,8 @@ use Rattle.ax_tree.specs.declared.packet.HEntry.TheVariants as entries
 use Rattle.ax_ask.specs.declared.op.Item.{Item}
 use Rattle.ax_ask.specs.declared.op.Item.TheVariants as items
 use Rattle.ax_run_rules.specs.Taken.{Closed, ClosedFrame, journal_items, entries_of_pass, packet_items, history_items, queries_at, entries_left, order_taken}
-use Rattle.ax_fair_laws.specs.Laws.{receipts_among, is_got}
+use Rattle.ax_order_laws.specs.Workers.{is_got}
+use Rattle.ax_fair_laws.specs.Laws.{receipts_among}
 use Rattle.ax_fair_laws.proofs.Orders.{among-append}
 
 none_of_each : {X : Type 0} (f : X → List Item) → ((x : X) → receipts_among (f x) ≡ []) → (xs : List X) → receipts_among (flat_map f xs) ≡ []

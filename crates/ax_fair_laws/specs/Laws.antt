@@ -1,12 +1,8 @@
 -- What the clauses of the workers give of a fair order.
 use Rattle.std.specs.Prelude.{ℕ, ◌≡◌, ◌≤◌, ◌<◌, Bool, true, false, not, ◌==◌, ◌&&◌, if◌then◌else◌, List, [], ◌∷◌, ◌++◌, length, map, filter, filter_map, slice_get, Option, Some, None}
 use Rattle.std.specs.Option.{IsSomeAnd}
-use Rattle.ax_tree.specs.declared.packet.HEntry.{HEntry}
-use Rattle.ax_tree.specs.declared.packet.HEntry.TheVariants as entries
-use Rattle.ax_ask.specs.declared.op.BrowserOp.{BrowserOp}
 use Rattle.ax_ask.specs.declared.op.TimedOp.{TimedOp}
 use Rattle.ax_ask.specs.declared.op.Item.{Item}
-use Rattle.ax_ask.specs.declared.op.Item.TheVariants as items
 use Rattle.ax_ask.specs.declared.query.Query.{Query}
 use Rattle.ax_ask.specs.declared.query.TimedQuery.{TimedQuery}
 use Rattle.ax_ask.specs.declared.line.Line.{Line}
@@ -16,16 +12,10 @@ use Rattle.ax_workers.specs.Reader.{AreFirstAsked}
 use Rattle.ax_run_rules.specs.Scripts.{Script}
 use Rattle.ax_run_rules.specs.Taken.{Closed, order_taken}
 use Rattle.ax_run_rules.specs.Fair.{is_receipt, is_due, may_follow, each_follows, ready_count}
+use Rattle.ax_order_laws.specs.Told.{is_entry}
+use Rattle.ax_order_laws.specs.Workers.{is_got}
 
 -- ---- an order and the calls of a browser's worker
-
--- an item of the forest's turn that adds an entry
-abbrev pub is_entry : Item → Bool
-is_entry (items.Frame t) = false
-is_entry (items.Receive t) = true
-is_entry items.Browser = true
-is_entry (items.Deliver t n) = false
-is_entry (items.Reader k) = false
 
 -- whether each is a receipt, of the items and of the calls that add an entry
 abbrev pub receipts_among : List Item → List Bool
@@ -54,13 +44,6 @@ EachServedOrderIsInTime =
 abbrev pub NoneIsDueAtItsEnd : Type 0
 NoneIsDueAtItsEnd =
     (s : Script) (o : List Item) (done : ℕ) (calls : List Called) → IsServedToEnd s.browser done calls → receipts_called calls ≡ receipts_among o → is_due s o ≡ false
-
--- whether an entry of the history is a packet
-abbrev pub is_got : HEntry → Bool
-is_got (entries.Got p) = true
-is_got (entries.Asked t) = false
-is_got (entries.Ended t) = false
-is_got (entries.Probed t u) = false
 
 abbrev pub EachTakenOrderHasItsReceipts : Type 0
 EachTakenOrderHasItsReceipts = (c : Closed) (looks : List (List ℕ)) → receipts_among (order_taken c looks) ≡ map is_got c.history

@@ -11,7 +11,7 @@ use Rattle.ax_run_rules.specs.Steps.{next_token, do_ask, do_browser, do_deliver,
 use Rattle.ax_run_rules.specs.Finale.{delivery_of, serve}
 use Rattle.ax_run_laws.proofs.Found.{of_tree}
 use Rattle.ax_run_laws.proofs.Kept.{Keeps, Kept, step_kept}
-use Rattle.ax_finale_laws.specs.Laws.{named, AllNamed}
+use Rattle.ax_ask.specs.Calls.{tree_of, AllNamed}
 use Rattle.ax_finale_laws.proofs.Ends.{Ends, onward, joined, has_frame}
 
 -- what each step keeps: the trees, and that the browser's operations are at them
@@ -71,7 +71,7 @@ module _ (d : ℕ → Bool) (ts : List ℕ) where
       (joined (Left os) K (Serving os) (serving os) (step r (items.Deliver t (record { 0 = n }))) (delivery_left r t n os x.0 x.1 s.at)
       (step_kept AnyFrame (AllNamed ts) d ts (named_keeps ts) r (items.Deliver t (record { 0 = n })) s.kept))
 
-  deliveries_there : (s : State) (o : BrowserOp) (os : List TimedOp) (r : Run) → contains ts (named o) ≡ true → Serving os r → Ends (Serving os) (run (delivery_of s o) r)
+  deliveries_there : (s : State) (o : BrowserOp) (os : List TimedOp) (r : Run) → contains ts (tree_of o) ≡ true → Serving os r → Ends (Serving os) (run (delivery_of s o) r)
   deliveries_there s (browsers.Ask t) os r c k = go (is_gone s.history t)
     where
       go : (b : Bool) → Ends (Serving os) (run (if b then [] else items.Deliver t (record { 0 = next_token s.history t }) ∷ []) r)

@@ -1,5 +1,5 @@
 -- After the finale the forest is of the lists and the journals alone.
-use Rattle.std.proofs.Common.{ℕ, ◌≡◌, ◌==◌, Bool, true, false, ◌||◌, if◌then◌else◌, List, [], ◌∷◌, map, find, refl, sym, ap, ◌∙◌, subst, Option, Some, None, arith, true≢false}
+use Rattle.std.proofs.Common.{ℕ, ◌≡◌, if◌then◌else◌, List, [], ◌∷◌, map, find, refl, sym, ap, ◌∙◌, subst, Option, Some, None}
 use Rattle.ax_trees.specs.Lists.{contains, NoneTwice}
 use Rattle.ax_tree.specs.Tree.{Tree, empty}
 use Rattle.ax_tree.specs.Forest.{Standing}
@@ -9,7 +9,8 @@ use Rattle.ax_rules.specs.Mirrors.{mirror_of, standing, forest_of}
 use Rattle.ax_run_rules.specs.States.{FrameRun, State, Run, trees_of, forest_now}
 use Rattle.ax_run_rules.specs.FrameSteps.{entry_of}
 use Rattle.ax_run_rules.specs.Finale.{finale_of}
-use Rattle.ax_run_laws.proofs.Found.{of_tree, same_number}
+use Rattle.ax_run_laws.proofs.Found.{of_tree}
+use Rattle.ax_run_laws.proofs.ByTree.{Each, each_first, there}
 use Rattle.ax_run_laws.proofs.Held.{Held, AllHeld}
 use Rattle.ax_run_laws.proofs.Quiet.{AllRun}
 use Rattle.ax_run_laws.proofs.Kept.{Kept}
@@ -31,39 +32,6 @@ goal s t = goal_in t (find (of_tree t) s.frames)
 bound : (r : Run) → Kept (Ahead (goal r.state)) AnyList (will_be_gone r.state) (trees_of r.state) r
 bound r = record { frames = λ t f e. sym (ap (goal_in t) e); browser = tt; ended = λ t. refl; trees = refl }
 
-abbrev Each : (FrameRun → Type 0) → List FrameRun → Type 0
-Each P [] = Unit {0}
-Each P (f ∷ fs) = P f × Each P fs
-
-other_way : (a b : ℕ) → (a == b) ≡ false → (b == a) ≡ false
-other_way a b h = grind (arith, h)
-
-not_first : (x : FrameRun) (all fs : List FrameRun) → contains (map (λ (f : FrameRun). f.tree) fs) x.tree ≡ false → Each (λ f. find (of_tree f.tree) all ≡ Some f) fs
-    → Each (λ f. find (of_tree f.tree) (x ∷ all) ≡ Some f) fs
-not_first x all [] n h = tt
-not_first x all (f ∷ fs) n h = go (f.tree == x.tree) refl n (λ m. not_first x all fs m h.1)
-  where
-    go : (b : Bool) → (f.tree == x.tree) ≡ b → (b || contains (map (λ (g : FrameRun). g.tree) fs) x.tree) ≡ false
-        → (contains (map (λ (g : FrameRun). g.tree) fs) x.tree ≡ false → Each (λ g. find (of_tree g.tree) (x ∷ all) ≡ Some g) fs)
-        → Each (λ g. find (of_tree g.tree) (x ∷ all) ≡ Some g) (f ∷ fs)
-    go true e m ih = absurd (true≢false m)
-    go false e m ih = (ap (λ c. if c then Some x else find (of_tree f.tree) all) (other_way f.tree x.tree e) ∙ h.0, ih m)
-
--- where no tree stands twice, each frame is found by its tree
-each_first : (fs : List FrameRun) → NoneTwice (map (λ (f : FrameRun). f.tree) fs) → Each (λ f. find (of_tree f.tree) fs ≡ Some f) fs
-each_first [] n = tt
-each_first (f ∷ fs) n =
-    (ap (λ c. if c then Some f else find (of_tree f.tree) fs) (same_number f.tree), not_first f fs fs n.0 (each_first fs n.1))
-
-there : (t : ℕ) (fs : List FrameRun) (f : FrameRun) → find (of_tree t) fs ≡ Some f → contains (map (λ (g : FrameRun). g.tree) fs) t ≡ true
-there t [] f e = absurd (cc)
-there t (g ∷ fs) f e = go (g.tree == t) e (λ k. there t fs f k)
-  where
-    go : (b : Bool) → (if b then Some g else find (of_tree t) fs) ≡ Some f → (find (of_tree t) fs ≡ Some f → contains (map (λ (x : FrameRun). x.tree) fs) t ≡ true)
-        → (b || contains (map (λ (x : FrameRun). x.tree) fs) t) ≡ true
-    go true k ih = refl
-    go false k ih = ih k
-
 -- what stands of a frame in the end
 abbrev to_come : State → FrameRun → Standing
 to_come s f = record { id = f.tree; tree = if will_be_gone s f.tree then None else Some (tree_to_come f) }
@@ -78,7 +46,7 @@ one_standing : (s : State) (e : Run) (f : FrameRun) → IsOver s e → find (of_
     → standing e.state.history (mirror_of e.state.history) f.tree ≡ to_come s f
 one_standing s e f o found =
     let t = f.tree in
-    let x = has_frame t e.state.frames (ap (λ l. contains l t) o.kept.trees ∙ there t s.frames f found) in
+    let x = has_frame t e.state.frames (ap (λ l. contains l t) o.kept.trees ∙ there (λ (g : FrameRun). g.tree) t s.frames f found) in
     let a = o.kept.frames t x.0 x.1 in
     let same : source_of t x.0.journal ≡ source_from (map entry_of f.left) (source_of t f.journal) = a.1 ∙ ap (goal_in t) found in
     let gone = no_more (is_gone e.state.history t) e.state.browser t (will_be_gone s t) o.kept.browser (o.kept.ended t) in
@@ -105,4 +73,4 @@ pub forest_of_lists : (r e : Run) → PacketsFit r.state → NoneTwice (trees_of
 unfolding forest_now forest_of
 forest_of_lists r e h once k =
     let o = is_over r e h k in
-    ap (λ l. map (standing e.state.history (mirror_of e.state.history)) l) o.kept.trees ∙ each_standing r.state e r.state.frames o (each_first r.state.frames once)
+    ap (λ l. map (standing e.state.history (mirror_of e.state.history)) l) o.kept.trees ∙ each_standing r.state e r.state.frames o (each_first (λ (f : FrameRun). f.tree) r.state.frames once)

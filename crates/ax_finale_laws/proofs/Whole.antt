@@ -18,7 +18,8 @@ use Rattle.ax_run_laws.specs.Laws.{is_destroyed}
 use Rattle.ax_run_laws.proofs.Found.{same_number}
 use Rattle.ax_run_laws.proofs.Quiet.{AllRun}
 use Rattle.ax_run_laws.proofs.Kept.{Kept, run_kept}
-use Rattle.ax_finale_laws.specs.Laws.{AllNamed, trees_in, IsSound, IsSoundState, TextsOf}
+use Rattle.ax_ask.specs.Calls.{AllNamed}
+use Rattle.ax_finale_laws.specs.Laws.{trees_in, IsSound, IsSoundState, TextsOf}
 use Rattle.ax_finale_laws.proofs.Ends.{Ends, AnyRun, onward, joined, is_there, tree_at}
 use Rattle.ax_finale_laws.proofs.Turns.{ops_there, packets_there}
 use Rattle.ax_finale_laws.proofs.Asks.{AnyFrame, any_keeps, named_keeps, serve_there}

@@ -1,10 +1,8 @@
 -- The finale of each run is there, and so are its texts.
-use Rattle.std.specs.Prelude.{ℕ, ◌≡◌, true, List, [], ◌∷◌, map, Some, is_some}
-use Rattle.ax_trees.specs.Lists.{contains, NoneTwice}
-use Rattle.ax_ask.specs.declared.op.BrowserOp.{BrowserOp}
-use Rattle.ax_ask.specs.declared.op.BrowserOp.TheVariants.{Ask, Destroy, Probe}
-use Rattle.ax_ask.specs.declared.op.TimedOp.{TimedOp}
+use Rattle.std.specs.Prelude.{ℕ, ◌≡◌, true, List, map, Some, is_some}
+use Rattle.ax_trees.specs.Lists.{NoneTwice}
 use Rattle.ax_ask.specs.declared.op.Item.{Item}
+use Rattle.ax_ask.specs.Calls.{AllNamed}
 use Rattle.ax_run_rules.specs.Scripts.{Script, FrameScript}
 use Rattle.ax_run_rules.specs.States.{State, Run, begin, trees_of, without_lines}
 use Rattle.ax_run_rules.specs.Steps.{run}
@@ -12,17 +10,6 @@ use Rattle.ax_run_rules.specs.Finale.{finale_of}
 use Rattle.ax_run_rules.specs.ReplayText.{replay_text}
 use Rattle.ax_run_rules.specs.CombineText.{combine_text}
 use Rattle.ax_run_rules.specs.ActText.{act_text}
-
--- the tree of a browser operation
-abbrev pub named : BrowserOp → ℕ
-named (Ask t) = t
-named (Destroy t) = t
-named (Probe t u) = t
-
--- each of the operations is at one of these trees
-abbrev pub AllNamed : List ℕ → List TimedOp → Type 0
-AllNamed ts [] = Unit {0}
-AllNamed ts (o ∷ os) = (contains ts (named o.op) ≡ true) × AllNamed ts os
 
 abbrev pub trees_in : Script → List ℕ
 trees_in s = map (λ (f : FrameScript). f.tree) s.frames

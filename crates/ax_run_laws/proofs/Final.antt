@@ -1,5 +1,5 @@
 -- After the finale the forest is that of the script, whatever the order.
-use Rattle.std.proofs.Common.{ℕ, zero, suc, ◌≡◌, ◌==◌, Bool, true, false, ◌||◌, if◌then◌else◌, List, [], ◌∷◌, ◌++◌, map, find, refl, sym, ap, ◌∙◌, subst, Option, Some, None, arith, true≢false}
+use Rattle.std.proofs.Common.{ℕ, zero, suc, ◌≡◌, ◌==◌, Bool, true, false, ◌||◌, if◌then◌else◌, List, [], ◌∷◌, ◌++◌, map, find, refl, sym, ap, ◌∙◌, subst, Option, Some, None}
 use Rattle.ax_trees.specs.Trees.{is_bare}
 use Rattle.ax_trees.specs.Lists.{contains, NoneTwice}
 use Rattle.ax_tree.specs.declared.packet.Packet.{Packet}
@@ -21,6 +21,7 @@ use Rattle.ax_run_rules.specs.Steps.{run}
 use Rattle.ax_run_rules.specs.Finale.{ops_left, packets_left, serve, catch_up, queries_left, finale_of}
 use Rattle.ax_run_laws.specs.Laws.{is_destroyed, tree_left, forest_left}
 use Rattle.ax_run_laws.proofs.Found.{of_tree, some_same, same_number}
+use Rattle.ax_run_laws.proofs.ByTree.{Each, each_first, one_of}
 use Rattle.ax_run_laws.proofs.Held.{FrameHeld, Held, AllHeld, begin_held, run_held}
 use Rattle.ax_run_laws.proofs.Quiet.{AllRun, next}
 use Rattle.ax_run_laws.proofs.CatchUp.{CaughtUp, Up, mirror_same, finale_up, finale_held}
@@ -144,42 +145,12 @@ begin_going s = record { frames = λ t f e. start_ahead t s.frames f e; browser 
 
 -- ---- the end
 
-abbrev Here : (FrameScript → Type 0) → List FrameScript → Type 0
-Here P [] = Unit {0}
-Here P (f ∷ fs) = P f × Here P fs
-
-other_way : (a b : ℕ) → (a == b) ≡ false → (b == a) ≡ false
-other_way a b h = grind (arith, h)
-
-not_first : (x : FrameScript) (all fs : List FrameScript) → contains (map (λ (f : FrameScript). f.tree) fs) x.tree ≡ false → Here (λ f. find (scripted f.tree) all ≡ Some f) fs
-    → Here (λ f. find (scripted f.tree) (x ∷ all) ≡ Some f) fs
-not_first x all [] n h = tt
-not_first x all (f ∷ fs) n h = go (f.tree == x.tree) refl n (λ m. not_first x all fs m h.1)
-  where
-    go : (b : Bool) → (f.tree == x.tree) ≡ b → (b || contains (map (λ (g : FrameScript). g.tree) fs) x.tree) ≡ false
-        → (contains (map (λ (g : FrameScript). g.tree) fs) x.tree ≡ false → Here (λ g. find (scripted g.tree) (x ∷ all) ≡ Some g) fs)
-        → Here (λ g. find (scripted g.tree) (x ∷ all) ≡ Some g) (f ∷ fs)
-    go true e m ih = absurd (true≢false m)
-    go false e m ih = (ap (λ c. if c then Some x else find (scripted f.tree) all) (other_way f.tree x.tree e) ∙ h.0, ih m)
-
--- where no tree stands twice, each frame is found by its tree
-each_first : (fs : List FrameScript) → NoneTwice (map (λ (f : FrameScript). f.tree) fs) → Here (λ f. find (scripted f.tree) fs ≡ Some f) fs
-each_first [] n = tt
-each_first (f ∷ fs) n =
-    (ap (λ c. if c then Some f else find (scripted f.tree) fs) (same_number f.tree), not_first f fs fs n.0 (each_first fs n.1))
-
 -- a tree of the list has a frame there
 pub has_frame : (t : ℕ) (fs : List FrameRun) → contains (map (λ (f : FrameRun). f.tree) fs) t ≡ true → (f : FrameRun) × (find (of_tree t) fs ≡ Some f)
-has_frame t [] h = absurd (true≢false (sym h))
-has_frame t (g ∷ fs) h = go (g.tree == t) (λ k. has_frame t fs k) h
-  where
-    go : (b : Bool) → (contains (map (λ (f : FrameRun). f.tree) fs) t ≡ true → (f : FrameRun) × (find (of_tree t) fs ≡ Some f))
-        → (b || contains (map (λ (f : FrameRun). f.tree) fs) t) ≡ true → (f : FrameRun) × ((if b then Some g else find (of_tree t) fs) ≡ Some f)
-    go true ih k = (g, refl)
-    go false ih k = ih k
+has_frame t fs h = one_of (λ (f : FrameRun). f.tree) t fs h
 
 each_in : (back fs : List FrameScript) → ((f : FrameScript) → contains (map (λ (g : FrameScript). g.tree) fs) f.tree ≡ true → contains (map (λ (g : FrameScript). g.tree) back) f.tree ≡ true)
-    → Here (λ f. contains (map (λ (g : FrameScript). g.tree) back) f.tree ≡ true) fs
+    → Each (λ f. contains (map (λ (g : FrameScript). g.tree) back) f.tree ≡ true) fs
 each_in back [] h = tt
 each_in back (f ∷ fs) h =
     (h f (ap (λ c. c || contains (map (λ (g : FrameScript). g.tree) fs) f.tree) (same_number f.tree)), each_in back fs (λ g k. h g (later (f.tree == g.tree) (contains (map (λ (x : FrameScript). x.tree) fs) g.tree) k)))
@@ -224,7 +195,7 @@ pub standing_left : (h : List HEntry) (t : ℕ) (d : Bool) (m l : Tree) → is_g
 standing_left h t true m l e k = rw e refl
 standing_left h t false m l e k = rw e (ap (λ x. Some x) (k refl))
 
-all_standing : (h : List HEntry) (s : Script) (fs : List FrameScript) → Here (λ f. standing h (mirror_of h) f.tree ≡ one_left s f) fs
+all_standing : (h : List HEntry) (s : Script) (fs : List FrameScript) → Each (λ f. standing h (mirror_of h) f.tree ≡ one_left s f) fs
     → map (standing h (mirror_of h)) (map (λ (f : FrameScript). f.tree) fs) ≡ map (one_left s) fs
 all_standing h s [] k = refl
 all_standing h s (f ∷ fs) k = ap (λ x. x ∷ map (standing h (mirror_of h)) (map (λ (g : FrameScript). g.tree) fs)) k.0 ∙ ap (λ l. one_left s f ∷ l) (all_standing h s fs k.1)
@@ -246,8 +217,8 @@ one_standing s e f k held up found there =
     (λ n. mirror_left e.state.history t x.0 f.ops (held.at t x.0 x.1) ((up t).at x.0 x.1) (gone ∙ n) same))
 
 each_standing : (s : Script) (e : Run) (fs : List FrameScript) → Kept (Arrived (goal s)) NoList (is_destroyed s.browser) (trees_in s) e → Held e.state.frames e.state.history
-    → ((t : ℕ) → Up t e) → Here (λ f. find (scripted f.tree) s.frames ≡ Some f) fs → Here (λ f. contains (trees_in s) f.tree ≡ true) fs
-    → Here (λ f. standing e.state.history (mirror_of e.state.history) f.tree ≡ one_left s f) fs
+    → ((t : ℕ) → Up t e) → Each (λ f. find (scripted f.tree) s.frames ≡ Some f) fs → Each (λ f. contains (trees_in s) f.tree ≡ true) fs
+    → Each (λ f. standing e.state.history (mirror_of e.state.history) f.tree ≡ one_left s f) fs
 each_standing s e [] k held up found there = tt
 each_standing s e (f ∷ fs) k held up found there = (one_standing s e f k held up found.0 there.0, each_standing s e fs k held up found.1 there.1)
 
@@ -264,4 +235,4 @@ forest_of_script s o r e once h k =
     let kept : AllHeld (Some e) = subst (λ x. AllHeld x) k (finale_held (without_lines r) held) in
     ap (λ l. map (standing e.state.history (mirror_of e.state.history)) l) over.trees
     ∙ all_standing e.state.history s s.frames
-    (each_standing s e s.frames over kept ups (each_first s.frames once) (each_in s.frames s.frames (λ f c. c)))
+    (each_standing s e s.frames over kept ups (each_first (λ (f : FrameScript). f.tree) s.frames once) (each_in s.frames s.frames (λ f c. c)))

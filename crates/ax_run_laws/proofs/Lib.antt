@@ -1,4 +1,5 @@
 pub mod Found
+pub mod ByTree
 pub mod Held
 pub mod Quiet
 pub mod CatchUp

@@ -72,6 +72,20 @@ impl Serializer {
         self.kept.len()
     }
 
+    /// The kept updates, in order.
+    pub fn kept_updates(&self) -> &[TreeUpdate]
+        ensures { result.now ≡ self.now.kept }
+    {
+        self.kept.as_slice()
+    }
+
+    /// Whether the bundle at hand begins from an empty client: its first update names a root and clears nothing.
+    pub fn is_fresh(&self) -> bool
+        ensures { result ≡ is_fresh self.now.kept }
+    {
+        is_fresh(self.kept.as_slice())
+    }
+
     /// The update at `d`. The receiver has it then, and `d` and all listed ids lose their marks. All memory is taken first, so
     /// want of memory changes nothing. Costs the update times the depth.
     pub fn serialize_changes(&mut self, s: &mut SourceTree, d: NodeId) -> Result<TreeUpdate, SerErr>

@@ -1,10 +1,11 @@
 //! Copies of edits and updates.
 
-use crate::given::{id, node, tree_id};
+use crate::given::{id, push_node, tree_id, with_root};
 use ax_attrs::{Key, Role};
 use ax_base::Text;
 use ax_node::{TreeData, Value};
 use ax_tree::{AttrChange, AttrChanges, Edit, Nodes, SetNode, SetTree, TreeUpdate};
+use std::alloc::Global;
 use std::test::Fail;
 
 #[test]
@@ -58,20 +59,23 @@ fn copies_an_edit_of_tree_data(rt: HostRuntime) -> Result<(), Fail> {
     Ok(())
 }
 
+fn is_copied(alloc: Global, update: &TreeUpdate) -> bool {
+    match update.copy(alloc) {
+        Ok(copy) => {
+            copy.root == update.root && copy.nodes.len() == 1 && copy.tree_data.is_some()
+        }
+        Err(_) => false,
+    }
+}
+
 #[test]
 fn copies_an_update(rt: HostRuntime) -> Result<(), Fail> {
-    let root = id(1)?;
-    let mut nodes = Nodes::new(rt.alloc());
-    nodes.push(node(rt.alloc(), 1, &[])?)?;
-    let update = TreeUpdate {
-        clear: None,
-        root: Some(root),
-        nodes,
-        tree_data: Some(TreeData::blank(rt.alloc(), tree_id()?)),
-    };
-    let copy = update.copy(rt.alloc())?;
-    assert_eq!(rt; copy.root, Some(root));
-    assert_eq!(rt; copy.nodes.len(), 1);
-    assert!(rt; copy.tree_data.is_some());
+    let alloc = rt.alloc();
+    let tree = tree_id()?;
+    let mut nodes = Nodes::new(alloc);
+    let pushed = push_node(alloc, &mut nodes, 1, &[]);
+    let mut update = with_root(1, nodes);
+    update.tree_data = Some(TreeData::blank(alloc, tree));
+    assert!(rt; pushed && is_copied(alloc, &update));
     Ok(())
 }

@@ -2,7 +2,7 @@
 
 ghost use Rattle.std.specs.Prelude.{◌≡◌, ◌<◌};
 
-use crate::given::{id, node, tree_id};
+use crate::given::{Listed, push_node, tree_id, update, with_root};
 use ax_base::NodeId;
 use ax_mirror::Mirror;
 use ax_pages::Steps;
@@ -12,106 +12,115 @@ use std::marker::Brand;
 use std::sync::ledger::{Blank, Ledger};
 use std::test::Fail;
 
-// A root, 0 for none.
-fn update(root: u32, nodes: Nodes) -> TreeUpdate {
-    TreeUpdate {
-        clear: None,
-        root: NodeId::new(root),
-        nodes,
-        tree_data: None,
+/// 1 over 2 and 3, and 2 over 4.
+const FOUR: Listed = &[(1, &[2, 3]), (2, &[4]), (3, &[]), (4, &[])];
+
+/// How many ids the update touches, or why it is refused.
+fn answer(mirror: &mut Mirror, update: &TreeUpdate) -> Result<usize, Refusal> {
+    match mirror.unserialize(update) {
+        Ok(touched) => Ok(touched.as_slice().len()),
+        Err(why) => Err(why),
     }
 }
 
-fn one(alloc: Global, n: u32, children: &[u32]) -> Result<TreeUpdate, Fail> {
-    let mut nodes = Nodes::new(alloc);
-    nodes.push(node(alloc, n, children)?)?;
-    Ok(update(0, nodes))
+/// The same, where there is an update at all.
+fn answer_of(mirror: &mut Mirror, update: Option<TreeUpdate>) -> Option<Result<usize, Refusal>> {
+    match update {
+        Some(update) => Some(answer(mirror, &update)),
+        None => None,
+    }
 }
 
-// 1 over 2 and 3, and 2 over 4.
-fn four(alloc: Global) -> Result<TreeUpdate, Fail> {
-    let mut nodes = Nodes::new(alloc);
-    nodes.push(node(alloc, 1, &[2, 3])?)?;
-    nodes.push(node(alloc, 2, &[4])?)?;
-    nodes.push(node(alloc, 3, &[])?)?;
-    nodes.push(node(alloc, 4, &[])?)?;
-    Ok(update(1, nodes))
+fn is_refused(mirror: &mut Mirror, update: Option<TreeUpdate>, wanted: Refusal) -> bool {
+    match answer_of(mirror, update) {
+        Some(Err(why)) => why == wanted,
+        _ => false,
+    }
 }
 
-// A chain of this many nodes.
-fn chain(alloc: Global, len: u32) -> Result<TreeUpdate, Fail> {
+fn touches(mirror: &mut Mirror, update: Option<TreeUpdate>, wanted: usize) -> bool {
+    match answer_of(mirror, update) {
+        Some(Ok(touched)) => touched == wanted,
+        _ => false,
+    }
+}
+
+fn has(mirror: &Mirror, n: u32) -> bool {
+    match NodeId::new(n) {
+        Some(id) => mirror.node(id).is_some(),
+        None => false,
+    }
+}
+
+/// A chain of this many nodes.
+fn chain(alloc: Global, len: u32) -> Option<TreeUpdate> {
     let mut nodes = Nodes::new(alloc);
     for n in 1..len {
-        nodes.push(node(alloc, n, &[n + 1])?)?;
+        if !push_node(alloc, &mut nodes, n, &[n + 1]) {
+            return None;
+        }
     }
-    nodes.push(node(alloc, len, &[])?)?;
-    Ok(update(1, nodes))
-}
-
-fn mirror(alloc: Global) -> Result<Mirror, Fail> {
-    let mut mirror = Mirror::new(alloc, tree_id()?);
-    let _ = mirror.unserialize(&four(alloc)?);
-    Ok(mirror)
-}
-
-// How many ids an update touches, and 0 where it is refused.
-fn touched_by(mirror: &mut Mirror, update: TreeUpdate) -> usize {
-    match mirror.unserialize(&update) {
-        Ok(touched) => touched.as_slice().len(),
-        Err(_) => 0,
+    if !push_node(alloc, &mut nodes, len, &[]) {
+        return None;
     }
+    Some(with_root(1, nodes))
 }
 
-fn is_refused(mirror: &mut Mirror, update: TreeUpdate, why: Refusal) -> bool {
-    match mirror.unserialize(&update) {
-        Ok(_) => false,
-        Err(refusal) => refusal == why,
-    }
-}
-
-// The last node of the chain gets a child.
-fn one_deeper(alloc: Global) -> Result<TreeUpdate, Fail> {
-    let mut nodes = Nodes::new(alloc);
-    nodes.push(node(alloc, 256, &[257])?)?;
-    nodes.push(node(alloc, 257, &[])?)?;
-    Ok(update(0, nodes))
+/// The last node of a chain of 256 gets a child.
+fn ends_at_256(alloc: Global, mirror: &mut Mirror) -> bool {
+    touches(mirror, chain(alloc, 256), 256)
+        && is_refused(
+            mirror,
+            update(alloc, 0, &[(256, &[257]), (257, &[])]),
+            Refusal::TooDeep(257),
+        )
+        && mirror.count() == 256
 }
 
 #[test]
 fn a_chain_ends_at_256(rt: HostRuntime) -> Result<(), Fail> {
     let alloc = rt.alloc();
-    let mut mirror = mirror(alloc)?;
-    assert!(rt; touched_by(&mut mirror, chain(alloc, 256)?) == 256);
-    assert!(rt; is_refused(&mut mirror, one_deeper(alloc)?, Refusal::TooDeep(257)));
-    assert!(rt; mirror.count() == 256);
+    let mut mirror = Mirror::new(alloc, tree_id()?);
+    assert!(rt; touches(&mut mirror, update(alloc, 1, FOUR), 4) && ends_at_256(alloc, &mut mirror));
     Ok(())
 }
 
-// 3 goes first, 2 goes with 4, and 5 is new.
-fn three(alloc: Global) -> Result<TreeUpdate, Fail> {
-    let mut nodes = Nodes::new(alloc);
-    nodes.push(node(alloc, 1, &[3, 5])?)?;
-    nodes.push(node(alloc, 5, &[])?)?;
-    Ok(update(0, nodes))
+/// 3 goes first, 2 goes with 4, and 5 is new. A share taken before still has 4 below 2.
+fn orders_drops_and_makes(alloc: Global, mirror: &mut Mirror) -> bool {
+    let share = match mirror.share() {
+        Ok(share) => share,
+        Err(_) => return false,
+    };
+    touches(mirror, update(alloc, 0, &[(1, &[3, 5]), (5, &[])]), 4)
+        && mirror.count() == 3
+        && !has(mirror, 4)
+        && has(mirror, 5)
+        && share.count() == 4
+        && is_below_2(&share, 4)
+}
+
+fn is_below_2(mirror: &Mirror, n: u32) -> bool {
+    match NodeId::new(n) {
+        Some(id) => mirror.parent(id) == NodeId::new(2),
+        None => false,
+    }
 }
 
 #[test]
 fn an_update_orders_drops_and_makes(rt: HostRuntime) -> Result<(), Fail> {
     let alloc = rt.alloc();
-    let mut mirror = mirror(alloc)?;
-    let share = mirror.share()?;
-    let four = id(4)?;
-    assert!(rt; touched_by(&mut mirror, three(alloc)?) == 4);
-    assert!(rt; mirror.count() == 3);
-    assert!(rt; mirror.node(four).is_none());
-    assert!(rt; share.parent(four) == NodeId::new(2));
+    let mut mirror = Mirror::new(alloc, tree_id()?);
+    assert!(rt;
+        touches(&mut mirror, update(alloc, 1, FOUR), 4)
+            && orders_drops_and_makes(alloc, &mut mirror)
+    );
     Ok(())
 }
 
-// How many ids the bundle touches, or where and why it was refused.
+/// How many ids the bundle touches, or where and why it was refused.
 fn applied<L: Ledger>(
     mirror: &mut Mirror,
-    bundle: Bundle,
+    bundle: &Bundle,
     fresh: bool,
     blank: Blank,
 ) -> Result<usize, BundleErr>
@@ -120,40 +129,74 @@ fn applied<L: Ledger>(
     requires some { 0 < L.parts }
 {
     let mut steps: Steps<L> = Steps::start(blank);
-    match mirror.apply(&bundle, fresh, &mut steps) {
+    match mirror.apply(bundle, fresh, &mut steps) {
         Ok(touched) => Ok(touched.as_slice().len()),
         Err(refusal) => Err(refusal),
     }
 }
 
-// The second update lists 4, which the first one took out.
-fn broken(alloc: Global) -> Result<Bundle, Fail> {
-    let mut bundle = Bundle::new(alloc);
-    bundle.push(one(alloc, 2, &[])?)?;
-    bundle.push(one(alloc, 4, &[])?)?;
-    bundle.push(one(alloc, 3, &[])?)?;
-    Ok(bundle)
+fn push_update(bundle: &mut Bundle, update: Option<TreeUpdate>) -> bool {
+    match update {
+        Some(update) => bundle.push(update).is_ok(),
+        None => false,
+    }
 }
 
-fn fresh(alloc: Global) -> Result<Bundle, Fail> {
-    let mut bundle = Bundle::new(alloc);
-    bundle.push(chain(alloc, 2)?)?;
-    Ok(bundle)
+/// The second update lists 4, which the first one took out.
+fn broken(alloc: Global, bundle: &mut Bundle) -> bool {
+    push_update(bundle, update(alloc, 0, &[(2, &[])]))
+        && push_update(bundle, update(alloc, 0, &[(4, &[])]))
+        && push_update(bundle, update(alloc, 0, &[(3, &[])]))
+}
+
+fn is_broken(answer: Result<usize, BundleErr>) -> bool {
+    match (answer, NodeId::new(4)) {
+        (Err(refused), Some(four)) => refused.at == 1 && refused.why == Refusal::NotInTree(four),
+        _ => false,
+    }
+}
+
+fn stays<L: Ledger>(mirror: &mut Mirror, bundle: &Bundle, blank: Blank) -> bool
+    requires name { blank.name ≡ L.name }
+    requires parts { blank.parts ≡ L.parts }
+    requires some { 0 < L.parts }
+{
+    is_broken(applied::<L>(mirror, bundle, false, blank)) && mirror.count() == 4 && has(mirror, 4)
+}
+
+fn begins_anew<L: Ledger>(mirror: &mut Mirror, bundle: &Bundle, blank: Blank) -> bool
+    requires name { blank.name ≡ L.name }
+    requires parts { blank.parts ≡ L.parts }
+    requires some { 0 < L.parts }
+{
+    match applied::<L>(mirror, bundle, true, blank) {
+        Ok(touched) => touched == 4 && mirror.count() == 2,
+        Err(_) => false,
+    }
 }
 
 #[test]
 fn a_refused_bundle_leaves_all(rt: HostRuntime) -> Result<(), Fail> {
     let alloc = rt.alloc();
-    let mut mirror = mirror(alloc)?;
-    let refused = BundleErr {
-        at: 1,
-        why: Refusal::NotInTree(id(4)?),
-    };
-    let answer = applied::<Brand>(&mut mirror, broken(alloc)?, false, Blank::new(1));
-    assert!(rt; answer == Err(refused));
-    assert!(rt; mirror.count() == 4);
-    let answer = applied::<Brand>(&mut mirror, fresh(alloc)?, true, Blank::new(1));
-    assert!(rt; answer == Ok(4));
-    assert!(rt; mirror.count() == 2);
+    let mut mirror = Mirror::new(alloc, tree_id()?);
+    let mut bundle = Bundle::new(alloc);
+    assert!(rt;
+        touches(&mut mirror, update(alloc, 1, FOUR), 4)
+            && broken(alloc, &mut bundle)
+            && stays::<Brand>(&mut mirror, &bundle, Blank::new(1))
+    );
+    Ok(())
+}
+
+#[test]
+fn a_fresh_bundle_begins_anew(rt: HostRuntime) -> Result<(), Fail> {
+    let alloc = rt.alloc();
+    let mut mirror = Mirror::new(alloc, tree_id()?);
+    let mut bundle = Bundle::new(alloc);
+    assert!(rt;
+        touches(&mut mirror, update(alloc, 1, FOUR), 4)
+            && push_update(&mut bundle, chain(alloc, 2))
+            && begins_anew::<Brand>(&mut mirror, &bundle, Blank::new(1))
+    );
     Ok(())
 }

@@ -3,7 +3,7 @@
 ghost use Rattle.std.specs.Prelude.{◌≡◌, ◌<◌, ◌≤◌, ◌+◌};
 
 use crate::given::id;
-use ax_base::Rect;
+use ax_base::{NodeId, Rect};
 use ax_node::NodeData;
 use ax_pages::{Paged, Pages, Steps};
 use std::alloc::Global;
@@ -11,89 +11,149 @@ use std::marker::Brand;
 use std::sync::ledger::{Blank, Ledger};
 use std::test::Fail;
 
-// A node that is told from others of its id by its width.
-fn node(alloc: Global, n: u32, width: i32) -> Result<NodeData, Fail> {
-    let mut node = NodeData::blank(alloc, id(n)?);
-    node.rect = Rect::new(0, 0, width, 1).ok_or("no rectangle")?;
-    Ok(node)
+/// A node that is told from others of its id by its width.
+fn node(alloc: Global, id: NodeId, width: i32) -> Option<NodeData> {
+    let rect = Rect::new(0, 0, width, 1)?;
+    let mut node = NodeData::blank(alloc, id);
+    node.rect = rect;
+    Some(node)
 }
 
-fn width_at(pages: &Pages, n: u32) -> Result<i32, Fail> {
-    let node = pages.read(id(n)?).ok_or("no node")?;
-    Ok(node.rect.w())
+/// Each write takes one step at most.
+fn put<L: Ledger>(
+    alloc: Global,
+    pages: &mut Pages,
+    n: u32,
+    width: i32,
+    steps: &mut Steps<L>,
+) -> bool
+    ensures cost { steps.new ≤ steps.old + 1 }
+{
+    let Some(id) = NodeId::new(n) else {
+        return false;
+    };
+    match node(alloc, id, width) {
+        Some(node) => pages.write(id, node, steps).is_ok(),
+        None => false,
+    }
 }
 
-// Each write takes one step at most.
-fn write_three<L: Ledger>(
+fn put_all<L: Ledger>(alloc: Global, pages: &mut Pages, steps: &mut Steps<L>) -> bool {
+    for n in 1..641 {
+        if !put(alloc, pages, n, 1, steps) {
+            return false;
+        }
+    }
+    true
+}
+
+fn put_three<L: Ledger>(alloc: Global, pages: &mut Pages, steps: &mut Steps<L>) -> bool
+    ensures cost { steps.new ≤ steps.old + 3 }
+{
+    put(alloc, pages, 1, 2, steps)
+        && put(alloc, pages, 2, 2, steps)
+        && put(alloc, pages, 64, 2, steps)
+}
+
+/// The width of a node, and 0 where it isn't there.
+fn width_at(pages: &Pages, n: u32) -> i32 {
+    match NodeId::new(n) {
+        Some(id) => match pages.read(id) {
+            Some(node) => node.rect.w(),
+            None => 0,
+        },
+        None => 0,
+    }
+}
+
+fn widths(pages: &Pages) -> i32 {
+    let mut sum: i32 = 0;
+    for n in 1..641 {
+        sum = sum.wrapping_add(width_at(pages, n));
+    }
+    sum
+}
+
+/// The sums of the widths in the share and in the pages, of which three were widened after it.
+fn share_and_pages<L: Ledger>(
     alloc: Global,
     pages: &mut Pages,
     steps: &mut Steps<L>,
-) -> Result<(), Fail>
-    ensures cost { steps.new ≤ steps.old + 3 }
-{
-    pages.write(id(1)?, node(alloc, 1, 2)?, steps)?;
-    pages.write(id(2)?, node(alloc, 2, 2)?, steps)?;
-    pages.write(id(64)?, node(alloc, 64, 2)?, steps)?;
-    Ok(())
+) -> (i32, i32) {
+    match pages.share() {
+        Ok(share) => {
+            if !put_three(alloc, pages, steps) {
+                return (0, 0);
+            }
+            (widths(&share), widths(pages))
+        }
+        Err(_) => (0, 0),
+    }
 }
 
-fn share_keeps_its_nodes<L: Ledger>(alloc: Global, blank: Blank) -> Result<i32, Fail>
+fn share_keeps_its_nodes<L: Ledger>(alloc: Global, blank: Blank) -> (i32, i32)
     requires name { blank.name ≡ L.name }
     requires parts { blank.parts ≡ L.parts }
     requires some { 0 < L.parts }
 {
     let mut steps: Steps<L> = Steps::start(blank);
     let mut pages = Pages::new(alloc);
-    for n in 1..641 {
-        pages.write(id(n)?, node(alloc, n, 1)?, &mut steps)?;
+    if !put_all(alloc, &mut pages, &mut steps) {
+        return (0, 0);
     }
-    let share = pages.share()?;
-    write_three(alloc, &mut pages, &mut steps)?;
-    let mut old: i32 = 0;
-    for n in 1..641 {
-        old = old.wrapping_add(width_at(&share, n)?);
-    }
-    let new = width_at(&pages, 1)? as i64
-        + width_at(&pages, 2)? as i64
-        + width_at(&pages, 64)? as i64;
-    if new != 6 || width_at(&pages, 3)? != 1 {
-        return Ok(0);
-    }
-    Ok(old)
+    share_and_pages(alloc, &mut pages, &mut steps)
 }
 
 #[test]
 fn a_share_keeps_its_nodes(rt: HostRuntime) -> Result<(), Fail> {
     assert_eq!(rt;
-        share_keeps_its_nodes::<Brand>(rt.alloc(), Blank::new(1))?,
-        640
+        share_keeps_its_nodes::<Brand>(rt.alloc(), Blank::new(1)),
+        (640, 643)
     );
     Ok(())
 }
 
-fn erased<L: Ledger>(alloc: Global, blank: Blank) -> Result<(usize, usize), Fail>
+fn written<L: Ledger>(values: &mut Paged<u32>, at: NodeId, steps: &mut Steps<L>) -> bool {
+    values.write(at, 11, steps).is_ok()
+        && values.write_own(at, 13).is_ok()
+        && values.erase_own(at).is_ok()
+        && values.write_own(at, 12).is_ok()
+}
+
+/// How many values stand after one is erased twice, and in a share from before that; none where the share lost it.
+fn erased<L: Ledger>(values: &mut Paged<u32>, at: NodeId, steps: &mut Steps<L>) -> (usize, usize) {
+    match values.share() {
+        Ok(share) => {
+            let gone = values.erase(at, steps).is_ok() && values.erase(at, steps).is_ok();
+            if !gone || values.read(at).is_some() || share.read(at) != Some(&12) {
+                return (0, 0);
+            }
+            (values.len(), share.len())
+        }
+        Err(_) => (0, 0),
+    }
+}
+
+fn erased_after<L: Ledger>(alloc: Global, first: NodeId, at: NodeId, blank: Blank) -> (usize, usize)
     requires name { blank.name ≡ L.name }
     requires parts { blank.parts ≡ L.parts }
     requires some { 0 < L.parts }
 {
     let mut steps: Steps<L> = Steps::start(blank);
     let mut values: Paged<u32> = Paged::new(alloc);
-    values.write_own(id(1)?, 10)?;
-    values.write(id(65)?, 11, &mut steps)?;
-    values.write_own(id(65)?, 13)?;
-    values.erase_own(id(65)?)?;
-    values.write_own(id(65)?, 12)?;
-    let share = values.share()?;
-    values.erase(id(65)?, &mut steps)?;
-    values.erase(id(65)?, &mut steps)?;
-    if values.read(id(65)?).is_some() || share.read(id(65)?) != Some(&12) {
-        return Ok((0, 0));
+    if values.write_own(first, 10).is_err() || !written(&mut values, at, &mut steps) {
+        return (0, 0);
     }
-    Ok((values.len(), share.len()))
+    erased(&mut values, at, &mut steps)
 }
 
 #[test]
 fn an_erased_value_stays_in_the_share(rt: HostRuntime) -> Result<(), Fail> {
-    assert_eq!(rt; erased::<Brand>(rt.alloc(), Blank::new(1))?, (1, 2));
+    let first = id(1)?;
+    let at = id(65)?;
+    assert_eq!(rt;
+        erased_after::<Brand>(rt.alloc(), first, at, Blank::new(1)),
+        (1, 2)
+    );
     Ok(())
 }

@@ -1,10 +1,11 @@
-//! Source trees: each call once, the greatest chain, the greatest count, and walks.
+//! Source trees: each call once, the greatest chain, the greatest count, and walks. Each step says whether it was done.
 
+ghost use Rattle.std.specs.Prelude.{IfSome};
 ghost use Rattle.ax_tree.specs.Edits.{HasLeaf};
 
-use crate::given::{id, tree_id};
+use crate::given::tree_id;
 use ax_attrs::Key;
-use ax_base::NodeId;
+use ax_base::{Ids, NodeId};
 use ax_node::{NodeData, Value};
 use ax_source::SourceTree;
 use ax_tree::{AttrChange, AttrChanges, Edit, EditErr, SetNode, SetTree, TreeView};
@@ -22,37 +23,42 @@ fn leaf(alloc: Global, parent: NodeId, index: usize, id: NodeId) -> Edit
     }
 }
 
-fn insert(
+/// Whether the leaf is there now, or why not.
+fn inserted(
     alloc: Global,
     s: &mut SourceTree,
     parent: u32,
     index: usize,
     n: u32,
-) -> Result<bool, Fail> {
-    let edit = leaf(alloc, id(parent)?, index, id(n)?);
-    Ok(s.edit(&edit).is_ok())
+) -> Option<Result<(), EditErr>> {
+    let parent = NodeId::new(parent)?;
+    let id = NodeId::new(n)?;
+    let edit = leaf(alloc, parent, index, id);
+    Some(s.edit(&edit))
 }
 
-// A tree of the root 1 alone.
-fn one(alloc: Global) -> Result<SourceTree, Fail> {
-    let mut s = SourceTree::new(alloc, tree_id()?);
-    let _ = s.edit(&Edit::Root(NodeData::blank(alloc, id(1)?)));
-    Ok(s)
+fn insert(alloc: Global, s: &mut SourceTree, parent: u32, index: usize, n: u32) -> bool {
+    inserted(alloc, s, parent, index, n) == Some(Ok(()))
 }
 
-// 1 over 2 and 4, 3 below 2, and no mark.
-fn four(alloc: Global) -> Result<SourceTree, Fail> {
-    let mut s = one(alloc)?;
-    let _ = insert(alloc, &mut s, 1, 0, 2)?;
-    let _ = insert(alloc, &mut s, 2, 0, 3)?;
-    let _ = insert(alloc, &mut s, 1, 1, 4)?;
-    for n in 1..5 {
-        s.unmark(id(n)?);
+/// The root 1 alone.
+fn root(alloc: Global, s: &mut SourceTree) -> bool {
+    match NodeId::new(1) {
+        Some(id) => s.edit(&Edit::Root(NodeData::blank(alloc, id))).is_ok(),
+        None => false,
     }
-    Ok(s)
 }
 
-// Whether the marks are these, in order. They are gone then.
+/// 1 over 2 and 4, 3 below 2, and no mark.
+fn four(alloc: Global, s: &mut SourceTree) -> bool {
+    root(alloc, s)
+        && insert(alloc, s, 1, 0, 2)
+        && insert(alloc, s, 2, 0, 3)
+        && insert(alloc, s, 1, 1, 4)
+        && marked(s, &[1, 2, 3, 4])
+}
+
+/// Whether the marks are these, in order. They are gone then.
 fn marked(s: &mut SourceTree, ids: &[u32]) -> bool {
     for n in ids {
         match s.marks().first() {
@@ -63,79 +69,152 @@ fn marked(s: &mut SourceTree, ids: &[u32]) -> bool {
     s.marks().is_empty()
 }
 
-// Whether these are the nodes, in pre-order.
-fn stand(alloc: Global, s: &SourceTree, ids: &[u32]) -> Result<bool, Fail> {
-    let all = pre(alloc, s, id(1)?)?;
-    Ok(
-        all.as_slice()
-            .iter()
-            .map(|id| id.get())
-            .eq(ids.iter().copied()),
-    )
+fn are(ids: &Ids, numbers: &[u32]) -> bool {
+    ids.as_slice()
+        .iter()
+        .map(|id| id.get())
+        .eq(numbers.iter().copied())
+}
+
+/// Whether these are the nodes, in pre-order.
+fn stand(alloc: Global, s: &SourceTree, numbers: &[u32]) -> bool {
+    match NodeId::new(1) {
+        Some(root) => match pre(alloc, s, root) {
+            Ok(ids) => are(&ids, numbers),
+            Err(_) => false,
+        },
+        None => false,
+    }
+}
+
+fn inserts_below(alloc: Global, s: &mut SourceTree) -> bool {
+    four(alloc, s)
+        && insert(alloc, s, 2, 0, 5)
+        && stand(alloc, s, &[1, 2, 5, 3, 4])
+        && marked(s, &[2, 5])
 }
 
 #[test]
 fn inserts(rt: HostRuntime) -> Result<(), Fail> {
-    let mut s = four(rt.alloc())?;
-    assert!(rt; insert(rt.alloc(), &mut s, 2, 0, 5)?);
-    assert!(rt; stand(rt.alloc(), &s, &[1, 2, 5, 3, 4])?);
-    assert!(rt; marked(&mut s, &[2, 5]));
+    let mut s = SourceTree::new(rt.alloc(), tree_id()?);
+    assert!(rt; inserts_below(rt.alloc(), &mut s));
     Ok(())
+}
+
+fn move_to(s: &mut SourceTree, node: u32, parent: u32) -> bool {
+    match (NodeId::new(node), NodeId::new(parent)) {
+        (Some(node), Some(parent)) => s
+            .edit(&Edit::Move {
+                node,
+                parent,
+                index: 0,
+            })
+            .is_ok(),
+        _ => false,
+    }
+}
+
+fn moves_below(alloc: Global, s: &mut SourceTree) -> bool {
+    four(alloc, s) && move_to(s, 2, 4) && stand(alloc, s, &[1, 4, 2, 3]) && marked(s, &[1, 4])
 }
 
 #[test]
 fn moves(rt: HostRuntime) -> Result<(), Fail> {
-    let mut s = four(rt.alloc())?;
-    let edit = Edit::Move {
-        node: id(2)?,
-        parent: id(4)?,
-        index: 0,
-    };
-    assert!(rt; s.edit(&edit).is_ok());
-    assert!(rt; stand(rt.alloc(), &s, &[1, 4, 2, 3])?);
-    assert!(rt; marked(&mut s, &[1, 4]));
+    let mut s = SourceTree::new(rt.alloc(), tree_id()?);
+    assert!(rt; moves_below(rt.alloc(), &mut s));
     Ok(())
+}
+
+fn touch(s: &mut SourceTree, n: u32) -> bool {
+    match NodeId::new(n) {
+        Some(id) => s.mark(id).is_ok(),
+        None => false,
+    }
+}
+
+fn touch_below(s: &mut SourceTree, n: u32) -> bool {
+    match NodeId::new(n) {
+        Some(id) => s.mark_below(id).is_ok(),
+        None => false,
+    }
+}
+
+fn remove(s: &mut SourceTree, n: u32) -> bool {
+    match NodeId::new(n) {
+        Some(id) => s.edit(&Edit::Remove(id)).is_ok(),
+        None => false,
+    }
+}
+
+/// The marks of what goes go too.
+fn removes_marked(alloc: Global, s: &mut SourceTree) -> bool {
+    four(alloc, s)
+        && touch(s, 4)
+        && touch_below(s, 2)
+        && remove(s, 2)
+        && stand(alloc, s, &[1, 4])
+        && marked(s, &[4, 1])
 }
 
 #[test]
 fn removes(rt: HostRuntime) -> Result<(), Fail> {
-    let mut s = four(rt.alloc())?;
-    assert!(rt; s.mark(id(4)?).is_ok());
-    assert!(rt; s.mark_below(id(2)?).is_ok());
-    assert!(rt; s.edit(&Edit::Remove(id(2)?)).is_ok());
-    assert!(rt; stand(rt.alloc(), &s, &[1, 4])?);
-    assert!(rt; marked(&mut s, &[4, 1]));
+    let mut s = SourceTree::new(rt.alloc(), tree_id()?);
+    assert!(rt; removes_marked(rt.alloc(), &mut s));
     Ok(())
 }
 
-#[test]
-fn sets_a_node(rt: HostRuntime) -> Result<(), Fail> {
-    let mut s = four(rt.alloc())?;
-    let mut attrs = AttrChanges::new(rt.alloc());
-    attrs.push(AttrChange {
-        key: Key::LEVEL,
-        value: Some(Value::Int(2)),
-    })?;
-    let edit = Edit::Set(SetNode {
-        node: id(3)?,
+/// The edit that gives a node a level.
+fn levelled(alloc: Global, node: NodeId) -> Option<Edit>
+    ensures { IfSome result HasLeaf }
+{
+    let mut attrs = AttrChanges::new(alloc);
+    attrs
+        .push(AttrChange {
+            key: Key::LEVEL,
+            value: Some(Value::Int(2)),
+        })
+        .ok()?;
+    Some(Edit::Set(SetNode {
+        node,
         role: None,
         states: None,
         attrs,
         rect: None,
-    });
-    assert!(rt; s.edit(&edit).is_ok());
-    assert!(rt;
-        s.node(id(3)?)
-            .is_some_and(|node| node.attrs.get(Key::LEVEL).is_some())
-    );
-    assert!(rt; marked(&mut s, &[3]));
-    Ok(())
+    }))
+}
+
+fn level(alloc: Global, s: &mut SourceTree, node: NodeId) -> bool {
+    match levelled(alloc, node) {
+        Some(edit) => s.edit(&edit).is_ok(),
+        None => false,
+    }
+}
+
+fn has_level(s: &SourceTree, node: NodeId) -> bool {
+    match s.node(node) {
+        Some(node) => node.attrs.get(Key::LEVEL).is_some(),
+        None => false,
+    }
+}
+
+fn sets_level(alloc: Global, s: &mut SourceTree) -> bool {
+    match NodeId::new(3) {
+        Some(node) => {
+            four(alloc, s) && level(alloc, s, node) && has_level(s, node) && marked(s, &[3])
+        }
+        None => false,
+    }
 }
 
 #[test]
-fn sets_tree_data(rt: HostRuntime) -> Result<(), Fail> {
-    let mut s = one(rt.alloc())?;
-    let edit = Edit::Tree(SetTree {
+fn sets_a_node(rt: HostRuntime) -> Result<(), Fail> {
+    let mut s = SourceTree::new(rt.alloc(), tree_id()?);
+    assert!(rt; sets_level(rt.alloc(), &mut s));
+    Ok(())
+}
+
+fn load(s: &mut SourceTree) -> bool {
+    s.edit(&Edit::Tree(SetTree {
         parent: None,
         focused: None,
         loaded: Some(true),
@@ -144,48 +223,84 @@ fn sets_tree_data(rt: HostRuntime) -> Result<(), Fail> {
         end: None,
         title: None,
         url: None,
-    });
-    assert!(rt; s.edit(&edit).is_ok());
-    assert!(rt; s.data_changed() && s.tree_data().loaded);
+    }))
+    .is_ok()
+}
+
+/// The flag stands until the data are sent.
+fn sets_loaded(alloc: Global, s: &mut SourceTree) -> bool {
+    let told = root(alloc, s) && load(s) && s.data_changed() && s.tree_data().loaded;
     s.data_sent();
-    assert!(rt; !s.data_changed());
+    told && !s.data_changed()
+}
+
+#[test]
+fn sets_tree_data(rt: HostRuntime) -> Result<(), Fail> {
+    let mut s = SourceTree::new(rt.alloc(), tree_id()?);
+    assert!(rt; sets_loaded(rt.alloc(), &mut s));
     Ok(())
+}
+
+fn chain_ends(alloc: Global, s: &mut SourceTree) -> bool {
+    for n in 2..257 {
+        if !insert(alloc, s, n - 1, 0, n) {
+            return false;
+        }
+    }
+    s.count() == 256
+        && inserted(alloc, s, 256, 0, 257) == Some(Err(EditErr::TooDeep(257)))
+        && s.count() == 256
 }
 
 #[test]
 fn a_chain_ends_at_256(rt: HostRuntime) -> Result<(), Fail> {
-    let mut s = one(rt.alloc())?;
-    for n in 2..257 {
-        let _ = insert(rt.alloc(), &mut s, n - 1, 0, n)?;
-    }
-    let deeper = leaf(rt.alloc(), id(256)?, 0, id(257)?);
-    assert!(rt; s.count() == 256);
-    assert!(rt; s.edit(&deeper) == Err(EditErr::TooDeep(257)));
-    assert!(rt; s.count() == 256);
+    let mut s = SourceTree::new(rt.alloc(), tree_id()?);
+    assert!(rt; root(rt.alloc(), &mut s) && chain_ends(rt.alloc(), &mut s));
     Ok(())
 }
 
-// Each node but the last has two children, so that no child list is long.
+/// Each node but the last has two children, so that no child list is long.
+fn tree_ends(alloc: Global, s: &mut SourceTree) -> bool {
+    for n in 2..100_001 {
+        if !insert(alloc, s, n / 2, (n % 2) as usize, n) {
+            return false;
+        }
+    }
+    s.count() == 100_000
+        && inserted(alloc, s, 1, 0, 100_001) == Some(Err(EditErr::TooMany(100_001)))
+        && s.count() == 100_000
+}
+
 #[test]
 fn a_tree_ends_at_100000(rt: HostRuntime) -> Result<(), Fail> {
-    let mut s = one(rt.alloc())?;
-    for n in 2..100_001 {
-        let _ = insert(rt.alloc(), &mut s, n / 2, (n % 2) as usize, n)?;
-    }
-    let more = leaf(rt.alloc(), id(1)?, 0, id(100_001)?);
-    assert!(rt; s.count() == 100_000);
-    assert!(rt; s.edit(&more) == Err(EditErr::TooMany(100_001)));
-    assert!(rt; s.count() == 100_000);
+    let mut s = SourceTree::new(rt.alloc(), tree_id()?);
+    assert!(rt; root(rt.alloc(), &mut s) && tree_ends(rt.alloc(), &mut s));
     Ok(())
+}
+
+fn has_line(alloc: Global, s: &SourceTree, node: NodeId, numbers: &[u32]) -> bool {
+    match chain(alloc, s, node) {
+        Ok(line) => are(&line, numbers),
+        Err(_) => false,
+    }
+}
+
+fn walks_up(alloc: Global, s: &SourceTree) -> bool {
+    match (NodeId::new(1), NodeId::new(3)) {
+        (Some(root), Some(node)) => {
+            has_line(alloc, s, node, &[1, 2, 3])
+                && depth(s, node) == 3
+                && height_below(s, root) == 2
+                && is_below(s, node, root)
+                && !is_below(s, root, node)
+        }
+        _ => false,
+    }
 }
 
 #[test]
 fn walks(rt: HostRuntime) -> Result<(), Fail> {
-    let s = four(rt.alloc())?;
-    let line = chain(rt.alloc(), &s, id(3)?)?;
-    assert!(rt; line.len() == 3);
-    assert!(rt; depth(&s, id(3)?) == 3);
-    assert!(rt; height_below(&s, id(1)?) == 2);
-    assert!(rt; is_below(&s, id(3)?, id(1)?));
+    let mut s = SourceTree::new(rt.alloc(), tree_id()?);
+    assert!(rt; four(rt.alloc(), &mut s) && walks_up(rt.alloc(), &s));
     Ok(())
 }

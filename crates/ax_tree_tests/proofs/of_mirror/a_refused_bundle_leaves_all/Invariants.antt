@@ -1,4 +1,4 @@
 use Rattle.ax_tree_tests.proofs.of_mirror.a_refused_bundle_leaves_all.Given as goal
 
-abbrev pub ghosts-applied : goal.ghosts-applied
-ghosts-applied g a = record { name = a.blank.name; parts = a.blank.parts }
+abbrev pub ghosts-stays : goal.ghosts-stays
+ghosts-stays g a = record { name = a.blank.name; parts = a.blank.parts }

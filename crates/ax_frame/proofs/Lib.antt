@@ -1,0 +1,5 @@
+pub mod Fitting
+pub mod Holding
+pub mod NoteLists
+pub mod Packing
+pub mod Rounds

@@ -1,0 +1,5 @@
+pub mod Namings
+pub mod Lists
+pub mod Indexes
+pub mod Forests
+pub mod Shown

@@ -1,0 +1,4 @@
+pub mod Marking
+pub mod Filters
+pub mod Walks
+pub mod Nodes

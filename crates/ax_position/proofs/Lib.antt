@@ -1,0 +1,13 @@
+pub mod Descents
+pub mod Joined
+pub mod Whole
+pub mod Children
+pub mod StartLemmas
+pub mod Surveys
+pub mod Marking
+pub mod Before
+pub mod Ups
+pub mod Sought
+pub mod Meetings
+pub mod LeafForms
+pub mod Ranged

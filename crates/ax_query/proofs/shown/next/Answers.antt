@@ -1,0 +1,17 @@
+use Rattle.std.proofs.Common.{◌∙◌}
+use Rattle.ax_run_rules.specs.Replies.{answer_of}
+use Rattle.ax_query.proofs.OnShown.{shown_refused, shown_listed, shown_there, next_reply}
+use Rattle.ax_query.proofs.shown.next.Goals as goal
+
+pub returns-in-Some : goal.returns-in-Some
+unfolding answer_of
+returns-in-Some g c = shown_refused (g.G.Grove.forest c.args.g.now) c.args.p.now _ c.in-Some.refusal c.in-Some.ensures.sound c.in-Some.ensures.refusal
+
+pub next-requires : goal.next-requires
+next-requires g c = record {
+  there = shown_listed (g.G.Grove.forest c.args.g.now) c.args.p.now c.in-None.ensures.refusal;
+  shown = shown_there (g.G.Grove.forest c.args.g.now) c.args.p.now c.in-None.ensures.refusal;
+}
+
+pub returns-in-None : goal.returns-in-None
+returns-in-None g c = c.place_or.ensures ∙ next_reply (g.G.Grove.forest c.args.g.now) c.args.p.now c.next.result c.in-None.ensures.sound c.in-None.ensures.refusal c.next.ensures

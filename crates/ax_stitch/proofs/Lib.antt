@@ -1,0 +1,15 @@
+pub mod Lists
+pub mod Orders
+pub mod Hosts
+pub mod Climbs
+pub mod Blocks
+pub mod Around
+pub mod Places
+pub mod Views
+pub mod Under
+pub mod Kids
+pub mod Corners
+pub mod Sound
+pub mod Parts
+pub mod Listed
+pub mod Hung

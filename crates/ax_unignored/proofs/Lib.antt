@@ -1,0 +1,15 @@
+pub mod Once
+pub mod Lines
+pub mod Lit
+pub mod Above
+pub mod Found
+pub mod Runs
+pub mod Firsts
+pub mod Lasts
+pub mod Unique
+pub mod Subs
+pub mod Tops
+pub mod Leaves
+pub mod Joint
+pub mod Spelled
+pub mod Counts

@@ -1,0 +1,1 @@
+"""What the tools for people share: scripts, outputs, trees, the browser, and the page that shows them."""

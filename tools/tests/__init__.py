@@ -1,0 +1,1 @@
+"""Tests of the tools for people. `tools/check` runs them."""
