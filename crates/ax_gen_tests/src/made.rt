@@ -1,4 +1,5 @@
-//! The operations of each frame, written in one line a frame, as the other program writes them.
+//! The operations of each frame, one line a frame: a letter for each (root, insert, set a name, move, delete, pass) with its
+//! numbers. What is wanted was made by another program, written apart from this one.
 use ax_ask::FrameOp;
 use ax_attrs::Version;
 use ax_gen::make;
