@@ -5,13 +5,15 @@
 
 The command is `rt ci` where none is given; to time all from nothing give `rt ci --anew`. Twice a second each process of the
 prover is looked up, and the last that was seen of its processor time is what it took, so a process that lived for less isn't
-seen. `proof` is what proves and compiles a crate where it stands, with its tests where it has some; `edits` are all checks of
-copies of it, the first of which proves it once more. The gate doesn't run this.
+seen. Where this program is asked to end (SIGTERM), it ends the command and tells what was seen so far. `proof` is what
+proves and compiles a crate where it stands, with its tests where it has some; `edits` are all checks of copies of it, the
+first of which proves it once more. The gate doesn't run this.
 """
 import argparse
 import collections
 import os
 import resource
+import signal
 import subprocess
 import sys
 import time
@@ -94,6 +96,7 @@ def main():
     start = time.monotonic()
     gate = subprocess.Popen(given.command, cwd=ROOT, stdout=sink, stderr=subprocess.STDOUT if sink else None)
     seen = {}
+    signal.signal(signal.SIGTERM, lambda *_: gate.terminate())
     while gate.poll() is None:
         look(gate.pid, seen)
         time.sleep(0.5)
