@@ -7,7 +7,8 @@ Three scripts are written to a temporary folder and given to `replay`:
 
     json    the operations below with one unknown member more. The program reads the bytes and has `serde_json` make the
             value, and refuses it before any part of the value is walked: so this is the plain reading of the JSON.
-    script  inserts, sets, moves, touches and passes, with an order. The whole grammar is read, and then refused as not built.
+    script  inserts, sets, moves, touches and passes, with an order of one receipt. The whole grammar is read, and the run
+            refuses the receipt, since no packet waits.
     run     roots and passes, which are read, run, and printed to a file.
 
 Of each the least time of the runs is printed, and the largest peak. The gate doesn't run this.
@@ -68,7 +69,7 @@ def main():
     given = parser.parse_args()
     with tempfile.TemporaryDirectory() as folder:
         script, output = Path(folder, "script.json"), Path(folder, "output.txt")
-        for name, op, tail in (("json", mixed, ',"other":0'), ("script", mixed, ',"order":"f1"'), ("run", bare, "")):
+        for name, op, tail in (("json", mixed, ',"other":0'), ("script", mixed, ',"order":"a1"'), ("run", bare, "")):
             write_script(script, op, given.ops, tail)
             runs = [measured(given.program, script, output) for _ in range(given.times)]
             with open(output) as text:

@@ -1,13 +1,13 @@
 #!/usr/bin/env python3
 """Measures the replay of large trees: time and peak memory of the program, by the system's count for the process.
 
-    bench_replay.py passes [--program PATH] [--nodes 100000] [--passes 20,200,2000]
+    bench_replay.py passes [--program PATH] [--nodes 100000] [--passes 200,2000,20000]
     bench_replay.py edits [--program PATH] [--nodes 49000,98000] [--edits 300000]
 
 Both build a tree in which each node has ten children.
 
-    passes  so many times, one node is set and a pass is made. Each pass sends and prints the whole source, so the text grows
-            by the tree with each: what is told is the time for each million bytes of text beyond that of the building.
+    passes  so many times, one node is set and a pass is made. The first pass sends the whole tree, each other one the node
+            that was set: what is told is the time for each pass beyond that of the building.
     edits   for each size of the tree, the time beyond that of the building for edits that leave the tree as large as it was:
             inserts below a leaf each with the removal of that node, moves of a leaf between two parents, and sets of a role.
             The time has the reading and the printing of those edits in it, which don't depend on the tree.
@@ -81,8 +81,8 @@ def tell_passes(given, folder):
         print(f"{nodes} nodes: {base:.2f} s, {peak / 1024:.0f} MiB, {size} bytes written")
         for count in given.passes:
             seconds, peak, written = measured(given.program, folder, build(nodes), passes(nodes, count))
-            more = (seconds - base) / max(1, written - size) * 1e6
-            print(f"  {count} passes: {seconds:.2f} s, {peak / 1024:.0f} MiB, {written} bytes written; {more:.3f} s a million bytes more")
+            each = (seconds - base) / max(1, count) * 1e6
+            print(f"  {count} passes: {seconds:.2f} s, {peak / 1024:.0f} MiB, {written} bytes written; {each:.1f} us each")
 
 
 def tell_edits(given, folder):
@@ -103,7 +103,7 @@ def main():
     parser.add_argument("what", choices=("passes", "edits"))
     parser.add_argument("--program", default=str(TOOL))
     parser.add_argument("--nodes", type=numbers)
-    parser.add_argument("--passes", type=numbers, default=[20, 200, 2000])
+    parser.add_argument("--passes", type=numbers, default=[200, 2000, 20000])
     parser.add_argument("--edits", type=int, default=300_000)
     given = parser.parse_args()
     with tempfile.TemporaryDirectory() as folder:

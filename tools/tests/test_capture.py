@@ -8,7 +8,7 @@ import jsonschema
 
 from pages.model import Tree, extents
 from pages.output import read_dump
-from pages.running import PROGRAM, REFUSED, USAGE, run
+from pages.running import PROGRAM, run
 from pages.story import Story
 from pages.tables import states
 from tests.browser_tests import DATA, TOOLS, read_json, tool
@@ -167,9 +167,6 @@ class Captured(unittest.TestCase):
     def test_the_replay_ends_with_the_browsers_tree(self):
         for script, final, _ in self.all:
             status, text = run(script.read_bytes())
-            if status == USAGE or (status == REFUSED and text.startswith("script NotBuilt ")):
-                print(f"not run by this program yet: the captured {script.stem} ({text.strip()})")
-                continue
             lines = text.splitlines()
             self.assertEqual(status, 0, lines[:1])
             self.assertEqual([line for line in lines if re.match(r"f\d+ (?!pass )", line) and not line.endswith(" ok")], [])

@@ -1,6 +1,6 @@
 //! Points and rectangles.
 ghost use Rattle.std.specs.Prelude.{◌≡◌, IsTrue, ◌↔◌, SomeIff, pos, ◌≤ℤ◌, ◌<ℤ◌, ◌+ℤ◌};
-ghost use Rattle.ax_base.specs.Area.{IsArea, Holds};
+ghost use Rattle.ax_base.specs.Area.{IsArea, HoldsPoint};
 
 use std::marker::Model;
 
@@ -102,7 +102,7 @@ impl Rect {
 
     /// Whether the point is within: the left and upper edges are, the right and lower ones aren't.
     pub fn holds(&self, p: Point) -> bool
-        ensures { IsTrue result ↔ Holds self.now p.x p.y }
+        ensures { IsTrue result ↔ HoldsPoint self.now p.x p.y }
     {
         let across = within(self.x, self.w, p.x);
         let down = within(self.y, self.h, p.y);

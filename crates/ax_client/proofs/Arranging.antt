@@ -1,5 +1,5 @@
 -- A node whose children are arranged anew: which ids stay, and that the trees stay distinct. It belongs in ax_tree, beside the update rule; the mirror has the same for drafts.
-use Rattle.std.proofs.Common.{ℕ, ◌≡◌, Bool, true, false, cond, not, ◌||◌, eqb, List, [], ◌∷◌, Option, Some, None, refl, sym, ap, subst, ◌∙◌, arith}
+use Rattle.std.proofs.Common.{ℕ, ◌≡◌, true, false, cond, not, ◌||◌, eqb, List, [], ◌∷◌, None, refl, sym, ap, subst, ◌∙◌, arith}
 use Rattle.std.proofs.lemmas.Bool.{eqb-true, false_from_ne_true, false≢true}
 use Rattle.std.proofs.lemmas.Bool.Decides.{eqb_tells}
 use Rattle.ax_trees.specs.Trees.{Trees, bare, tree, has, has_root, roots, IsDistinct}
@@ -11,6 +11,7 @@ use Rattle.ax_trees.proofs.Changed.{outside, with_node_from, has_with_node_more,
 use Rattle.ax_tree.specs.UpdateRule.{only, arranged, first_repeated, bad_child}
 use Rattle.ax_tree.proofs.Arranged.{arranged_from, only_in, distinct_arranged}
 use Rattle.ax_client.specs.Steps.{unlisted}
+use Rattle.ax_tree.proofs.Taken.{twice_apart, none_that, not_seen}
 
 module _ {X : Type 0} where
   pub unlisted_in : (k : Trees X) (cs : List ℕ) (z : ℕ) → has (unlisted k cs) z ≡ true → has k z ≡ true
@@ -110,18 +111,6 @@ module _ {X : Type 0} where
   roots-leaves e [] = refl
   roots-leaves e (c ∷ cs) = ap (λ js. c ∷ js) (roots-leaves e cs)
 
-not_seen : (b : Bool) (c : ℕ) (o : Option ℕ) → cond b (Some c) o ≡ None → (b ≡ false) × (o ≡ None)
-not_seen true c o h = absurd (cc)
-not_seen false c o h = (refl, h)
-
-twice_apart : (seen cs : List ℕ) (z : ℕ) → first_repeated seen cs ≡ None → contains seen z ≡ true → contains cs z ≡ false
-twice_apart seen [] z h s = refl
-twice_apart seen (c ∷ cs) z h s =
-    let n = not_seen _ _ _ h in
-    let no : eqb c z ≡ false = false_from_ne_true (eqb c z) (λ g. let t : contains seen c ≡ true = subst (λ j. contains seen j ≡ true) (sym (eqb-true c z g)) s in false≢true (sym n.0 ∙ t)) in
-    let later : contains cs z ≡ false = twice_apart (c ∷ seen) cs z n.1 (grind (arith, s)) in
-    rw no later
-
 distinct_leaves : {X : Type 0} (e : X) (seen cs : List ℕ) → first_repeated seen cs ≡ None → IsDistinct (leaves e cs)
 distinct_leaves e seen [] h = tt
 distinct_leaves e seen (c ∷ cs) h =
@@ -132,14 +121,6 @@ distinct_leaves e seen (c ∷ cs) h =
       tt,
       distinct_leaves e (c ∷ seen) cs n.1,
     )
-
-none_that : (p : ℕ → Bool) (cs : List ℕ) (z : ℕ) → first_that p cs ≡ None → contains cs z ≡ true → p z ≡ false
-none_that p [] z h c = absurd (false≢true c)
-none_that p (x ∷ cs) z h c =
-    let n = not_seen _ _ _ h in
-    by_go (eqb x z)
-    (λ q. ap p (sym (eqb-true x z q)) ∙ n.0)
-    (λ q. none_that p cs z n.1 (grind (arith, c, q)))
 
 -- a listed id that is no old child doesn't stay
 pub no_bad : {X : Type 0} (w : Trees X) (u : Node X) → first_that (bad_child (λ z. false) w u) u.children ≡ None

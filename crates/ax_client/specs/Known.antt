@@ -21,8 +21,8 @@ pub record Known : Type 0 where
 abbrev pub coded_known : Coded Known
 coded_known = code_by (Client × ℕ) (coded× (coded_trees coded_unit) coded_ℕ) (λ k. (k.tree, k.spare)) (λ p. record { tree = p.0; spare = p.1 }) (λ _. refl)
 
-abbrev pub Entries : Type 0
-Entries = HashMap ℕ Held (BuildHasherDefault FoldHasher)
+abbrev pub HeldEntries : Type 0
+HeldEntries = HashMap ℕ Held (BuildHasherDefault FoldHasher)
 
 -- the spot that an entry tells, and the entry of a spot
 abbrev pub spot_of : Held → Spot (Unit {0})
@@ -32,11 +32,11 @@ abbrev pub entry_of : ℕ → Spot (Unit {0}) → Held
 entry_of z s = record { above = s.above; children = s.children }
 
 -- The trees that the entries show below a root, or none. No chain has more nodes than there are entries.
-unfoldable pub client_in : Entries → Option ℕ → Client
+unfoldable pub client_in : HeldEntries → Option ℕ → Client
 client_in held root = grown (node_in spot_of (get nat_eq held)) (hash_map_len held) (option_to_list root)
 
 -- The entries keep the tree f below the root: at each id of f there is the entry of what stands there, and nothing at any other.
-pub record KeepsClient (held : Entries) (root : Option ℕ) (f : Client) : Type 0 where
+pub record KeepsClient (held : HeldEntries) (root : Option ℕ) (f : Client) : Type 0 where
   pub at : (z : ℕ) → get nat_eq held z ≡ option_map (entry_of z) (spot f z)
   pub is_tree : IsTree f
   pub tops : roots f ≡ option_to_list root

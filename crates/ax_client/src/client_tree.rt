@@ -1,3 +1,4 @@
+//! The client tree and its calls.
 ghost use Rattle.std.specs.Prelude.{◌≡◌, ◌≤◌, ◌+◌, [], false, None, Some, length, if◌then◌else◌, IfOk, IsTrue, OnErr, OnOk};
 ghost use Rattle.ax_trees.specs.Trees.{bare, tree, has, root_of, IsTree};
 ghost use Rattle.ax_trees.specs.Nodes.{below, chain, parent};

@@ -18,7 +18,7 @@ use Rattle.ax_rules.specs.Rows.{live_key}
 use Rattle.ax_rules.specs.Events.{region_of}
 use Rattle.ax_events.specs.Regions.{is_live}
 use Rattle.ax_order.proofs.Nodes.{node_there}
-use Rattle.ax_events.proofs.Nodes.{node_named}
+use Rattle.ax_trees.proofs.Parents.{node_named}
 
 module _ (f : Trees Look) (z : ℕ) (d : IsDistinct f) where
   up_above : (y : ℕ) (n : Node Look) → parent f z ≡ Some y → node_at f z ≡ Some n → line_up f z ≡ n ∷ line_up f y

@@ -4,7 +4,7 @@ use Rattle.std.specs.Prelude.{option_map, filter}
 use Rattle.std.specs.List.{list_any}
 use Rattle.std.proofs.lemmas.Option.{same_Some}
 use Rattle.std.proofs.lemmas.Bool.Decides.{eqb_tells}
-use Rattle.std.proofs.lemmas.Bool.{eqb-true, false≢true}
+use Rattle.std.proofs.lemmas.Bool.{false≢true}
 use Rattle.std.proofs.lemmas.List.Concat.{flat_map-append}
 use Rattle.ax_node.specs.Look.{Look}
 use Rattle.ax_node.specs.declared.node.NodeData.{NodeData}
@@ -15,15 +15,6 @@ use Rattle.ax_trees.proofs.Trees.{by_go}
 use Rattle.ax_tree.specs.SerialRule.{all_of}
 use Rattle.ax_tree.specs.Tree.{data_of, as_node}
 use Rattle.ax_order.proofs.Nodes.{back, node_there, node_inner, node_later}
-
--- a node has its own id (belongs in ax_trees)
-pub node_named : {X : Type 0} (f : Trees X) (z : ℕ) (n : Node X) → node_at f z ≡ Some n → n.id ≡ z
-node_named bare z n h = absurd (cc)
-node_named {X} (tree i x k r) z n h =
-    by_go (eqb i z)
-    (λ q. let h' : ◌≡◌ {A = Option (Node X)} (Some (record { id = i; known = x; children = roots k })) (Some n) = rw q at h in
-    ap (λ (u : Node X). u.id) (sym (same_Some _ _ h')) ∙ eqb-true i z q)
-    (λ q. by_go (has k z) (λ p. node_named k z n (rw (q, p) at h)) (λ p. node_named r z n (rw (q, p) at h)))
 
 pub as_nodes : (o : Option NodeData) (p : Option (Node Look)) → o ≡ option_map data_of p → option_map as_node o ≡ p
 as_nodes o p e = ap (option_map as_node) e ∙ back p

@@ -30,8 +30,9 @@ use Rattle.ax_events.specs.Told.{node_told, told_at}
 use Rattle.ax_events.specs.Regions.{is_live, is_on, node_differs, tells, where_tells, region_told}
 use Rattle.ax_order.proofs.Nodes.{same_node}
 use Rattle.ax_order.proofs.Filters.{contains_map, map_contains}
-use Rattle.ax_events.proofs.Nodes.{any_passes, passes_any, node_named, at_some, by_ids, without_quiet, flat_ext}
+use Rattle.ax_events.proofs.Nodes.{any_passes, passes_any, at_some, by_ids, without_quiet, flat_ext}
 use Rattle.ax_events.proofs.Climbs.{region_live, has_live}
+use Rattle.ax_trees.proofs.Parents.{node_named}
 
 -- ---- a thing is the same as itself
 

@@ -10,7 +10,7 @@ use Rattle.ax_run_rules.specs.States.{FrameRun, State, Run, find_frame, with_fra
 use Rattle.ax_run_rules.specs.Steps.{next_token, do_ask, do_browser, do_deliver, do_next_browser, step, run}
 use Rattle.ax_run_rules.specs.Finale.{delivery_of, serve}
 use Rattle.ax_run_laws.proofs.Found.{of_tree}
-use Rattle.ax_run_laws.proofs.Kept.{Keeps, Kept, step_kept}
+use Rattle.ax_run_laws.proofs.Kept.{KeepsRuns, Kept, step_kept}
 use Rattle.ax_ask.specs.Calls.{tree_of, AllNamed}
 use Rattle.ax_finale_laws.proofs.Ends.{Ends, onward, joined, has_frame}
 
@@ -18,7 +18,7 @@ use Rattle.ax_finale_laws.proofs.Ends.{Ends, onward, joined, has_frame}
 abbrev pub AnyFrame : ℕ → FrameRun → Type 0
 AnyFrame t f = Unit {0}
 
-pub any_keeps : (B : List TimedOp → Type 0) → ((o : TimedOp) (left : List TimedOp) → B (o ∷ left) → B left) → Keeps AnyFrame B
+pub any_keeps : (B : List TimedOp → Type 0) → ((o : TimedOp) (left : List TimedOp) → B (o ∷ left) → B left) → KeepsRuns AnyFrame B
 any_keeps B b = record {
   op = λ t f o left ps l h. tt;
   pass = λ t f ps h. tt;
@@ -27,7 +27,7 @@ any_keeps B b = record {
   browser = b;
 }
 
-pub named_keeps : (ts : List ℕ) → Keeps AnyFrame (AllNamed ts)
+pub named_keeps : (ts : List ℕ) → KeepsRuns AnyFrame (AllNamed ts)
 named_keeps ts = any_keeps (AllNamed ts) (λ o left b. b.1)
 
 record Left (os : List TimedOp) (r : Run) : Type 0 where

@@ -1,5 +1,5 @@
 -- Each tree that is behind can be asked anew: its frame is there, and its next pass makes a packet.
-use Rattle.std.proofs.Common.{ℕ, suc, ◌≡◌, Bool, true, false, not, ◌&&◌, ◌||◌, if◌then◌else◌, List, [], ◌∷◌, ◌++◌, length, find, refl, sym, ap, ◌∙◌, subst, Option, Some, None, option_and_then, option_map, option_to_list, true≢false}
+use Rattle.std.proofs.Common.{ℕ, suc, ◌≡◌, Bool, true, false, not, ◌&&◌, ◌||◌, if◌then◌else◌, List, [], ◌∷◌, ◌++◌, length, find, refl, sym, ap, ◌∙◌, subst, Option, Some, None, option_and_then, option_map, true≢false}
 use Rattle.ax_trees.specs.Trees.{is_bare}
 use Rattle.ax_trees.specs.Lists.{contains, is_nil}
 use Rattle.ax_tree.specs.declared.packet.Packet.{Packet}
@@ -17,10 +17,11 @@ use Rattle.ax_run_rules.specs.Finale.{is_behind, pass_of, refresh, refresh_if, c
 use Rattle.ax_rules.proofs.Appends.{frame_of-append}
 use Rattle.ax_run_laws.proofs.Found.{of_tree, found_in}
 use Rattle.ax_run_laws.proofs.Quiet.{AllRun}
-use Rattle.ax_run_laws.proofs.Kept.{Keeps, Kept, catch_up_kept}
+use Rattle.ax_run_laws.proofs.Kept.{KeepsRuns, Kept, catch_up_kept}
 use Rattle.ax_finale_laws.proofs.Ends.{Ends, AnyRun, onward, joined, swapped, has_frame}
 use Rattle.ax_finale_laws.proofs.Turns.{Took, waits_of, receipt_takes}
 use Rattle.ax_finale_laws.proofs.Asks.{AnyFrame}
+use Rattle.ax_run_laws.proofs.CatchUp.{one_sent, pending_reset}
 
 -- the tree's next pass makes a packet
 record Sends (t : ℕ) (r : Run) : Type 0 where
@@ -38,16 +39,13 @@ record Waits (t : ℕ) (r : Run) : Type 0 where
 abbrev delivered : ℕ → JEntry
 delivered n = entries.Delivered (record { 0 = n })
 
-pending_parts : (a b c : Bool) → a ≡ false → b ≡ true → (not a && (b || c)) ≡ true
-pending_parts a b c h k = rw (h, k) refl
-
 -- after a delivery the whole source is to be sent
 sends_all : (t n : ℕ) (j : List JEntry) → is_bare (frame_of t j).source.trees ≡ false → pending (frame_of t (j ++ delivered n ∷ [])) ≡ true
 sends_all t n j h =
     let g = frame_of t (j ++ delivered n ∷ []) in
     let a : is_bare g.source.trees ≡ is_bare (frame_of t j).source.trees = ap (λ (f : Frame). is_bare f.source.trees) (frame_of-append t j (delivered n)) in
     let b : is_bare g.sent.trees ≡ true = ap (λ (f : Frame). is_bare f.sent.trees) (frame_of-append t j (delivered n)) in
-    pending_parts (is_bare g.source.trees) (is_bare g.sent.trees) (not (is_nil g.marks) || g.flag) (a ∙ h) b
+    pending_reset (is_bare g.source.trees) (is_bare g.sent.trees) (not (is_nil g.marks) || g.flag) (a ∙ h) b
 
 delivered_sends : (r : Run) (t n : ℕ) (f : FrameRun) → find (of_tree t) r.state.frames ≡ Some f → is_bare (frame_of f.tree f.journal).source.trees ≡ false → Sends t (do_deliver r f n)
 unfolding do_deliver with_frame
@@ -64,9 +62,6 @@ deliver_sends : (r : Run) (t n : ℕ) (f : FrameRun) → find (of_tree t) r.stat
 unfolding step find_frame
 deliver_sends r t n f found h =
     subst (λ o. Ends (Sends t) (option_and_then (run []) (option_map (λ (g : FrameRun). do_deliver r g n) o))) (sym found) (delivered_sends r t n f found h)
-
-one_sent : (b : Bool) (p : Packet) → b ≡ true → option_to_list (if b then Some p else None) ≡ p ∷ []
-one_sent b p h = rw h refl
 
 one_more : (ps : List Packet) (p : Packet) → length (ps ++ p ∷ []) ≡ suc (length ps)
 one_more [] p = refl
@@ -126,7 +121,7 @@ abbrev pub AllIn : List ℕ → List ℕ → Type 0
 AllIn all [] = Unit {0}
 AllIn all (t ∷ ts) = (contains all t ≡ true) × AllIn all ts
 
-module _ (B : List TimedOp → Type 0) (keeps : Keeps AnyFrame B) (d : ℕ → Bool) (all : List ℕ) where
+module _ (B : List TimedOp → Type 0) (keeps : KeepsRuns AnyFrame B) (d : ℕ → Bool) (all : List ℕ) where
   abbrev K : Run → Type 0
   K r = Kept AnyFrame B d all r
 

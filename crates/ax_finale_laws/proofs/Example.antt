@@ -7,12 +7,12 @@ use Rattle.ax_run_rules.specs.Finale.{catch_up, finale_of, finished}
 use Rattle.ax_run_rules.proofs.Computing.{computing}
 use Rattle.ax_run_rules.proofs.examples.NewsPage as news
 use Rattle.ax_run_rules.proofs.examples.ActionsOfAReader as reader
-use Rattle.ax_finale_laws.specs.Laws.{IsSound}
+use Rattle.ax_finale_laws.specs.Laws.{HasItsTrees}
 use Rattle.ax_finale_laws.specs.Gaps.{IsInOrder}
 use Rattle.ax_finale_laws.specs.CatchingUp.{acted_on, forest_to_come}
 use Rattle.ax_finale_laws.proofs.Gapless.{starts_in_order}
 
-sound : IsSound news.script
+sound : HasItsTrees news.script
 sound = record { apart = (refl, (refl, (refl, tt))); named = (refl, tt) }
 
 in_order : IsInOrder (start news.script)

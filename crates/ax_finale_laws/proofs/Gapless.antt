@@ -1,11 +1,10 @@
 -- No receipt of the finale is a gap: it delivers only tokens that it has asked for.
-use Rattle.std.proofs.Common.{ℕ, zero, suc, ◌+◌, ◌≡◌, ◌≤◌, Bool, true, false, not, ◌&&◌, cond, if◌then◌else◌, List, [], ◌∷◌, ◌++◌, length, filter, find, flat_map, replicate, refl, sym, ap, ◌∙◌, subst, Option, Some, None, option_and_then, option_map, true≢false, arith}
+use Rattle.std.proofs.Common.{ℕ, zero, suc, ◌+◌, ◌≡◌, ◌≤◌, Bool, true, false, not, ◌&&◌, if◌then◌else◌, List, [], ◌∷◌, ◌++◌, length, find, flat_map, replicate, refl, sym, ap, ◌∙◌, subst, Option, Some, None, option_and_then, option_map, true≢false, arith}
 use Rattle.std.specs.List.{list_any, enumerate_from}
 use Rattle.ax_tree.specs.declared.packet.Packet.{Packet}
 use Rattle.ax_tree.specs.declared.packet.JEntry.{JEntry}
 use Rattle.ax_tree.specs.declared.packet.JEntry.TheVariants as entries
 use Rattle.ax_tree.specs.declared.packet.HEntry.{HEntry}
-use Rattle.ax_tree.specs.declared.packet.HEntry.TheVariants.{Asked}
 use Rattle.ax_ask.specs.declared.op.FrameOp.TheVariants as ops
 use Rattle.ax_ask.specs.declared.op.BrowserOp.{BrowserOp}
 use Rattle.ax_ask.specs.declared.op.BrowserOp.TheVariants as browsers
@@ -13,22 +12,22 @@ use Rattle.ax_ask.specs.declared.op.TimedOp.{TimedOp}
 use Rattle.ax_ask.specs.declared.op.Item.{Item}
 use Rattle.ax_ask.specs.declared.op.Item.TheVariants as items
 use Rattle.ax_ask.specs.declared.query.TimedQuery.{TimedQuery}
-use Rattle.ax_rules.specs.Histories.{asks, is_gone, token_of, got}
+use Rattle.ax_rules.specs.Histories.{is_gone, token_of, got}
 use Rattle.ax_run_rules.specs.Scripts.{Script}
 use Rattle.ax_tree.specs.Journals.{packets_of}
 use Rattle.ax_run_rules.specs.States.{start, FrameRun, State, Run, trees_of, find_frame, with_frame, without_lines}
 use Rattle.ax_run_rules.specs.FrameSteps.{do_op}
 use Rattle.ax_run_rules.specs.Steps.{next_token, do_ask, do_browser, do_deliver, do_next_browser, step, run}
 use Rattle.ax_run_rules.specs.Finale.{ops_left, packets_left, delivery_of, serve, is_behind, pass_of, refresh, refresh_if, catch_up, queries_left, finale_of}
-use Rattle.ax_rules.proofs.Tokens.{token-append}
 use Rattle.ax_run_laws.specs.Laws.{IsAsked, TokensAsked, is_gap}
-use Rattle.ax_run_laws.proofs.Found.{of_tree, found_in, same_number}
+use Rattle.ax_run_laws.proofs.Found.{of_tree, found_in}
 use Rattle.ax_run_laws.proofs.Held.{start_found, op_held, browser_op_held}
 use Rattle.ax_run_laws.proofs.Quiet.{AllRun, next}
 use Rattle.ax_run_laws.proofs.Gaps.{LowEntry, LowEntries, final}
 use Rattle.ax_finale_laws.specs.Gaps.{IsUpTo, AllUpTo, last_after, IsLastApplied, TokensFit, IsInOrder, NoneIsAGap}
 use Rattle.ax_run_laws.proofs.NoGaps.{Last, Chained, Sound, both_sound, op_sound, browser_op_sound, run_sound}
 use Rattle.ax_finale_laws.proofs.Resumed.{held_where_fit}
+use Rattle.ax_run_laws.proofs.CatchUp.{token_after}
 
 -- ---- orders without deliveries
 
@@ -78,12 +77,6 @@ unfolding queries_left
 queries_plain s = plain_all (λ (r : ℕ × List TimedQuery). length r.1) (λ (r : ℕ × List TimedQuery). items.Reader r.0) (λ r. tt) (enumerate_from 1 s.readers)
 
 -- ---- what was asked is delivered
-
-token_after : (h : List HEntry) (t : ℕ) → is_gone h t ≡ false → token_of (h ++ Asked t ∷ []) t ≡ next_token h t
-token_after h t n =
-    token-append h (Asked t) t
-    ∙ (ap (λ b. cond b (token_of h t) (token_of h t + length (filter (asks t) (Asked t ∷ [])))) n
-    ∙ ap (λ b. token_of h t + length (cond b (Asked t ∷ []) [])) (same_number t))
 
 ask_asked : (r : Run) (t : ℕ) → is_gone r.state.history t ≡ false → next_token r.state.history t ≤ token_of (do_ask r t).state.history t
 unfolding do_ask

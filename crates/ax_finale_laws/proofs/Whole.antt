@@ -19,7 +19,7 @@ use Rattle.ax_run_laws.proofs.Found.{same_number}
 use Rattle.ax_run_laws.proofs.Quiet.{AllRun}
 use Rattle.ax_run_laws.proofs.Kept.{Kept, run_kept}
 use Rattle.ax_ask.specs.Calls.{AllNamed}
-use Rattle.ax_finale_laws.specs.Laws.{trees_in, IsSound, IsSoundState, TextsOf}
+use Rattle.ax_finale_laws.specs.Laws.{trees_in, HasItsTrees, StateHasItsTrees, TextsOf}
 use Rattle.ax_finale_laws.proofs.Ends.{Ends, AnyRun, onward, joined, is_there, tree_at}
 use Rattle.ax_finale_laws.proofs.Turns.{ops_there, packets_there}
 use Rattle.ax_finale_laws.proofs.Asks.{AnyFrame, any_keeps, named_keeps, serve_there}
@@ -64,10 +64,10 @@ module _ (d : ℕ → Bool) (ts : List ℕ) (apart : NoneTwice ts) where
 abbrev ended_of : State → ℕ → Bool
 ended_of s t = is_gone s.history t || is_destroyed s.browser t
 
-sound_kept : (r : Run) → IsSoundState r.state → Kept AnyFrame (AllNamed (trees_of r.state)) (ended_of r.state) (trees_of r.state) r
+sound_kept : (r : Run) → StateHasItsTrees r.state → Kept AnyFrame (AllNamed (trees_of r.state)) (ended_of r.state) (trees_of r.state) r
 sound_kept r s = record { frames = λ t f e. tt; browser = s.named; ended = λ t. refl; trees = refl }
 
-pub finale_of_state : (r : Run) → IsSoundState r.state → is_some (finale_of r) ≡ true
+pub finale_of_state : (r : Run) → StateHasItsTrees r.state → is_some (finale_of r) ≡ true
 finale_of_state r s =
     is_there (Kept AnyFrame (AllNamed (trees_of r.state)) (ended_of r.state) (trees_of r.state)) (finale_of r) (finale_kept (ended_of r.state) (trees_of r.state) s.apart r (sound_kept r s))
 
@@ -80,7 +80,7 @@ start_trees (f ∷ fs) = ap (λ l. f.tree ∷ l) (start_trees fs)
 abbrev Going : Script → Run → Type 0
 Going s r = Kept AnyFrame (AllNamed (trees_in s)) (is_destroyed s.browser) (trees_in s) r
 
-begin_going : (s : Script) → IsSound s → Going s (begin s)
+begin_going : (s : Script) → HasItsTrees s → Going s (begin s)
 unfolding begin start is_gone
 begin_going s h = record { frames = λ t f e. tt; browser = h.named; ended = λ t. refl; trees = start_trees s.frames }
 
@@ -88,15 +88,15 @@ begin_going s h = record { frames = λ t f e. tt; browser = h.named; ended = λ 
 quiet_going : (s : Script) (r : Run) → Going s r → Going s (without_lines r)
 quiet_going s r k = record { frames = k.frames; browser = k.browser; ended = k.ended; trees = k.trees }
 
-run_going : (s : Script) (o : List Item) (r : Run) → IsSound s → run o (begin s) ≡ Some r → Going s (without_lines r)
+run_going : (s : Script) (o : List Item) (r : Run) → HasItsTrees s → run o (begin s) ≡ Some r → Going s (without_lines r)
 run_going s o r h e =
     let k : AllRun (Going s) (Some r) = subst (λ q. AllRun (Going s) q) e (run_kept AnyFrame (AllNamed (trees_in s)) (is_destroyed s.browser) (trees_in s) (named_keeps (trees_in s)) o (begin s) (begin_going s h)) in
     quiet_going s r k
 
-run_ends : (s : Script) (o : List Item) (r : Run) → IsSound s → run o (begin s) ≡ Some r → Ends (Going s) (finale_of (without_lines r))
+run_ends : (s : Script) (o : List Item) (r : Run) → HasItsTrees s → run o (begin s) ≡ Some r → Ends (Going s) (finale_of (without_lines r))
 run_ends s o r h e = finale_kept (is_destroyed s.browser) (trees_in s) h.apart (without_lines r) (run_going s o r h e)
 
-pub finale_there : (s : Script) (o : List Item) (r : Run) → IsSound s → run o (begin s) ≡ Some r → is_some (finale_of (without_lines r)) ≡ true
+pub finale_there : (s : Script) (o : List Item) (r : Run) → HasItsTrees s → run o (begin s) ≡ Some r → is_some (finale_of (without_lines r)) ≡ true
 finale_there s o r h e = is_there (Going s) (finale_of (without_lines r)) (run_ends s o r h e)
 
 -- ---- texts
@@ -105,11 +105,11 @@ mapped : {A B : Type 0} (g : A → B) (o : Option A) → is_some o ≡ true → 
 mapped g None h = h
 mapped g (Some x) h = refl
 
-pub replay_there : (s : Script) (o : List Item) (r : Run) → IsSound s → run o (begin s) ≡ Some r → is_some (replay_text s o) ≡ true
+pub replay_there : (s : Script) (o : List Item) (r : Run) → HasItsTrees s → run o (begin s) ≡ Some r → is_some (replay_text s o) ≡ true
 unfolding replay_text
 replay_there s o r h e = rw e (mapped _ (finale_of (without_lines r)) (finale_there s o r h e))
 
-finished_ends : (s : Script) (o : List Item) (r : Run) → IsSound s → run o (begin s) ≡ Some r → Ends (Going s) (finished s o)
+finished_ends : (s : Script) (o : List Item) (r : Run) → HasItsTrees s → run o (begin s) ≡ Some r → Ends (Going s) (finished s o)
 unfolding finished
 finished_ends s o r h e = subst (λ q. Ends (Going s) (option_and_then (λ (x : Run). finale_of (without_lines x)) q)) (sym e) (run_ends s o r h e)
 
@@ -162,16 +162,16 @@ actions_there : (az : List Action) (s : State) → is_some (actions_text az s) �
 unfolding actions_text
 actions_there az s = mapped _ (catch_up (trees_of s) (record { state = after_actions az s; lines = [] })) (is_there (Acted az s) (catch_up (trees_of s) (record { state = after_actions az s; lines = [] })) (acted_ends az s))
 
-combine_there : (s : Script) (r : Run) → IsSound s → run s.order (begin s) ≡ Some r → is_some (combine_text s) ≡ true
+combine_there : (s : Script) (r : Run) → HasItsTrees s → run s.order (begin s) ≡ Some r → is_some (combine_text s) ≡ true
 unfolding combine_text
 combine_there s r h e = both_mapped (Going s) (replay_text s s.order) (finished s s.order) _ (replay_there s s.order r h e) (finished_ends s s.order r h e)
 
-act_there : (s : Script) (r : Run) → IsSound s → run s.order (begin s) ≡ Some r → is_some (act_text s) ≡ true
+act_there : (s : Script) (r : Run) → HasItsTrees s → run s.order (begin s) ≡ Some r → is_some (act_text s) ≡ true
 unfolding act_text
 act_there s r h e =
     both_there (Going s) (replay_text s s.order) (finished s s.order) _ (replay_there s s.order r h e) (finished_ends s s.order r h e) (λ text q k. mapped _ (actions_text s.actions q.state) (actions_there s.actions q.state))
 
-pub texts_there : (s : Script) → IsSound s → TextsOf s
+pub texts_there : (s : Script) → HasItsTrees s → TextsOf s
 texts_there s h = record {
   replayed = λ o r e. replay_there s o r h e;
   own = λ r e. record { combined = combine_there s r h e; acted = act_there s r h e };

@@ -15,21 +15,21 @@ abbrev pub trees_in : Script → List ℕ
 trees_in s = map (λ (f : FrameScript). f.tree) s.frames
 
 -- the frames' trees differ, and the browser's operations are at them
-pub record IsSound (s : Script) : Type 0 where
+pub record HasItsTrees (s : Script) : Type 0 where
   pub apart : NoneTwice (trees_in s)
   pub named : AllNamed (trees_in s) s.browser
 
-pub record IsSoundState (s : State) : Type 0 where
+pub record StateHasItsTrees (s : State) : Type 0 where
   pub apart : NoneTwice (trees_of s)
   pub named : AllNamed (trees_of s) s.browser
 
 -- Each run of a sound script has its finale.
 abbrev pub TheFinaleIsThere : Type 0
-TheFinaleIsThere = (s : Script) (o : List Item) (r : Run) → IsSound s → run o (begin s) ≡ Some r → is_some (finale_of (without_lines r)) ≡ true
+TheFinaleIsThere = (s : Script) (o : List Item) (r : Run) → HasItsTrees s → run o (begin s) ≡ Some r → is_some (finale_of (without_lines r)) ≡ true
 
 -- So has each sound state, whatever its journals, history and waiting packets.
 abbrev pub EachStateHasItsFinale : Type 0
-EachStateHasItsFinale = (r : Run) → IsSoundState r.state → is_some (finale_of r) ≡ true
+EachStateHasItsFinale = (r : Run) → StateHasItsTrees r.state → is_some (finale_of r) ≡ true
 
 -- what a run's order gives
 pub record HasTexts (s : Script) : Type 0 where
@@ -42,4 +42,4 @@ pub record TextsOf (s : Script) : Type 0 where
   pub own : (r : Run) → run s.order (begin s) ≡ Some r → HasTexts s
 
 abbrev pub TheTextsAreThere : Type 0
-TheTextsAreThere = (s : Script) → IsSound s → TextsOf s
+TheTextsAreThere = (s : Script) → HasItsTrees s → TextsOf s

@@ -26,3 +26,11 @@ module _ {A E : Type 0} where
   pub either : {P Q R S : Type 0} (r : Result A E) → (P → Q → R) → (S → R) → OnOk r P → OnOk r Q → OnErr r S → R
   either (Ok x) f g p q s = f p q
   either (Err e) f g p q s = g s
+
+  pub on_err : {P Q : Type 0} (r : Result A E) → (P → Q) → OnErr r P → OnErr r Q
+  on_err (Ok x) f p = p
+  on_err (Err e) f p = f p
+
+  pub on_each : {P Q R : Type 0} (r : Result A E) → (P → R) → (Q → R) → OnOk r P → OnErr r Q → R
+  on_each (Ok x) f g p q = f p
+  on_each (Err e) f g p q = g q

@@ -7,8 +7,7 @@ use Rattle.ax_tree.specs.declared.update.BundleErr.{BundleErr}
 use Rattle.ax_tree.specs.Packets.{IsGood}
 use Rattle.ax_rules.specs.Histories.{got, is_applied}
 use Rattle.ax_rules.specs.Mirrors.{mirror_of}
-use Rattle.ax_rules.proofs.Appends.{got-append}
-use Rattle.ax_rules.proofs.Building.{bundles_build, verdicts_agree, applied_accepted}
+use Rattle.ax_rules.proofs.Building.{bundles_build, verdicts_agree, applied_accepted, got_then}
 use Rattle.ax_forest.specs.declared.answers.ForestErr.{ForestErr}
 use Rattle.ax_forest.specs.declared.answers.ForestErr.TheVariants.{NoTree, AlreadyGone, Refused, NoMemory}
 use Rattle.ax_forest.specs.Fates.{ContinuesGood, IsOfSource, IsRefused, IsWhy, IsNoRefusal}
@@ -20,9 +19,6 @@ one_got p = by (p.tree == p.tree) (grind arith)
     by : (b : Bool) → b ≡ true → filter_map (λ (o : Option Packet). o) (cond b (Some p) None ∷ []) ≡ p ∷ []
     by true e = refl
     by false e = absurd (let no : ⊥ = cc in no)
-
-got_then : (h : List HEntry) (p : Packet) → got (h ++ Got p ∷ []) p.tree ≡ got h p.tree ++ p ∷ []
-got_then h p = got-append h (Got p ∷ []) p.tree ∙ ap (λ l. got h p.tree ++ l) (one_got p)
 
 pub is_of_source : (h : List HEntry) (p : Packet) → ContinuesGood h p → IsOfSource h p
 is_of_source h p good = record {

@@ -1,25 +1,29 @@
 -- The forest that a list of ids shows beside the trees by id, and what may take the place of a tree in it.
-use Rattle.std.specs.Prelude.{ℕ, ◌≡◌, ◌≤◌, true, List, length, map, Option, Some, refl}
+use Rattle.std.specs.Prelude.{ℕ, ◌≡◌, ◌≤◌, true, if◌then◌else◌, List, length, map, Option, Some, None, refl}
+use Rattle.std.specs.Ordering.{nat_cmp}
+use Rattle.std.specs.FinMap as fin
 use Rattle.std.specs.Coded.{Coded, code_by, coded×, coded_ℕ, coded_list, coded_option}
 use Rattle.ax_trees.specs.Lists.{contains, NoneTwice}
-use Rattle.ax_tree.specs.Tree.{Tree}
+use Rattle.ax_tree.specs.Tree.{Tree, empty}
 use Rattle.ax_tree.specs.Forest.{Forest, Standing, IsSoundTree, live_tree}
 use Rattle.ax_mirror.specs.Mirrors.{NamesChanges, coded_tree}
-use Rattle.ax_forest.specs.ById.{at_id, HasPlace}
 
-abbrev pub shown_tree : List (Option Tree) → ℕ → Standing
-shown_tree ms t = record { id = t; tree = at_id ms t }
+abbrev pub shown_tree : fin.FinMap nat_cmp Tree → ℕ → Standing
+shown_tree ms t = record { id = t; tree = fin.get ms t }
 
-abbrev pub shown : List ℕ → List (Option Tree) → Forest
+abbrev pub shown : List ℕ → fin.FinMap nat_cmp Tree → Forest
 shown ids ms = map (shown_tree ms) ids
 
--- There is an id, and none stands twice. Each has its place, and no other id has a tree. Each tree is sound.
-pub record IsTable (ids : List ℕ) (ms : List (Option Tree)) : Type 0 where
+-- There is an id, and none stands twice. No other id has a tree. Each tree is sound.
+pub record IsTable (ids : List ℕ) (ms : fin.FinMap nat_cmp Tree) : Type 0 where
   pub some : 1 ≤ length ids
   pub once : NoneTwice ids
-  pub places : (t : ℕ) → contains ids t ≡ true → HasPlace ms t
-  pub listed : (t : ℕ) (m : Tree) → at_id ms t ≡ Some m → contains ids t ≡ true
-  pub sound : (t : ℕ) (m : Tree) → at_id ms t ≡ Some m → IsSoundTree t m
+  pub listed : (t : ℕ) (m : Tree) → fin.get ms t ≡ Some m → contains ids t ≡ true
+  pub sound : (t : ℕ) (m : Tree) → fin.get ms t ≡ Some m → IsSoundTree t m
+
+-- the ids of ts have empty trees, and no other id has one
+abbrev pub AreEmpty : List ℕ → fin.FinMap nat_cmp Tree → Type 0
+AreEmpty ts ms = (t : ℕ) → fin.get ms t ≡ (if contains ts t then Some (empty t) else None)
 
 abbrev pub ids_of : Forest → List ℕ
 ids_of f = map (λ (s : Standing). s.id) f

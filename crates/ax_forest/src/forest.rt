@@ -5,6 +5,7 @@ ghost use Rattle.ax_tree.specs.declared.packet.HEntry.TheVariants.{Got, Asked, E
 ghost use Rattle.ax_rules.specs.Histories.{token_of, applied_pass};
 ghost use Rattle.ax_rules.specs.Mirrors.{built_of, built_verdict_of};
 ghost use Rattle.ax_forest.specs.Fates.{IsTaken, IsWhy, ContinuesGood, IsOfSource, IsNoRefusal};
+ghost use Rattle.ax_forest.specs.Past.{forest_of};
 ghost use Rattle.ax_forest.specs.Entries.{past_after, IsAnswer, IsProbed};
 
 use crate::answers::{ForestErr, ProbeOut, ReceiveErr};
@@ -13,6 +14,7 @@ use crate::probing::probe_in;
 use crate::taking::receive_in;
 use crate::tally::{Tallies, first_tallies, pass_at, token_at};
 use crate::trees::Trees;
+use crate::view::ForestView;
 use ax_base::{NoMemory, PassNo, Place, Token, TreeId};
 use ax_mirror::Mirror;
 use ax_pages::Steps;
@@ -93,7 +95,8 @@ impl Forest {
     /// Receives a packet by the verdict rule, whatever its slip says. Where it is applied, the tree's mirror becomes what the
     /// update rule makes of the bundle, and the verdict has the events between the two. A packet that is refused comes back,
     /// and nothing has changed. Where its tree's packets are good, none is refused, and the mirror is the source at the last
-    /// applied pass. It costs what the bundle costs, and where a view holds the trees, a count for each.
+    /// applied pass. It costs what the bundle costs; where a view holds the trees, it also copies a page of at most 64 mirrors and
+    /// the table of at most 16 pages.
     pub fn receive(&mut self, packet: Packet) -> Result<Verdict, ReceiveErr>
         ensures verdict { IfOk result (λ v. v ≡ built_verdict_of self.old.history packet) }
         ensures taken { OnOk result (IsTaken self.old.trees self.old.history packet) }
@@ -129,6 +132,13 @@ impl Forest {
             packet,
             &mut steps,
         )
+    }
+
+    /// The trees as they stand, which no later call changes. Constant time: the view shares all that the forest has of them.
+    pub fn view(&self) -> Result<ForestView, NoMemory>
+        ensures { IfOk result (λ v. v ≡ forest_of self.now) }
+    {
+        ForestView::of(&self.trees)
     }
 
     /// Asks for a tree, and gives its new token, one more than the last. Constant time.

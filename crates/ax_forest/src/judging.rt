@@ -12,7 +12,6 @@ ghost use Rattle.ax_rules.specs.Events.{events_of};
 ghost use Rattle.ax_forest.specs.Tallied.{IsTallyOf};
 ghost use Rattle.ax_forest.specs.Judging.{verdict_by};
 
-use crate::shared::Shared;
 use crate::tally::Tally;
 use ax_base::{PassNo, Token};
 use ax_events::events;
@@ -33,7 +32,7 @@ pub enum Judgement {
 /// What an applied packet makes of a tree.
 #[derive(Drop)]
 pub struct Renewed {
-    pub mirror: Shared,
+    pub mirror: Mirror,
     pub touched: Touched,
     pub events: Events,
 }
@@ -89,9 +88,6 @@ pub fn renew<L: Ledger>(
     };
     // Asked for what it says: the mirror is well formed, and no chain has more than 256 nodes.
     let _ = mirror.root();
-    let Ok(mirror) = Shared::new(alloc, mirror) else {
-        return Err(no_memory());
-    };
     Ok(Renewed {
         mirror,
         touched,

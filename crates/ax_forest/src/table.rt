@@ -1,32 +1,31 @@
 //! The trees of a forest with their mirrors.
-ghost use Rattle.std.specs.Prelude.{◌≡◌, ◌≤◌, length, true, Some, IfOk, IfSome, OnOk};
+ghost use Rattle.std.specs.Prelude.{◌≡◌, ◌≤◌, length, true, Some, IfOk, IfSome, OnOk, OnErr};
 ghost use Rattle.std.specs.Option.{option_copied};
+ghost use Rattle.std.specs.FinMap as fin;
+ghost use Rattle.std.specs.Arc.{arc_value};
 ghost use Rattle.ax_trees.specs.Trees.{height};
 ghost use Rattle.ax_trees.specs.Lists.{contains, NoneTwice};
 ghost use Rattle.ax_tree.specs.Tree.{empty};
 ghost use Rattle.ax_tree.specs.Forest.{IsSound, IsSoundTree, first_tree, live_tree};
 ghost use Rattle.ax_managers.specs.Telling.{empty_forest, retold, dropped};
-ghost use Rattle.ax_forest.specs.ById.{at_id, HasPlace, KeepsPlaces, Puts, IsFilled};
-ghost use Rattle.ax_forest.specs.Shown.{ids_of};
+ghost use Rattle.ax_forest.specs.Shown.{ids_of, AreEmpty};
 
-use crate::by_id::{ById, fill, put, value_at};
-use crate::shared::Shared;
 use ax_base::{NoMemory, Seq, TreeId};
+use ax_by_id::ByTree;
 use ax_mirror::Mirror;
 use std::alloc::Global;
 use std::marker::Model;
+use std::sync::Arc;
 
-/// The mirrors of the live trees.
-type Mirrors = ById<Shared>;
-
-/// The trees in their order, with the mirrors of those that are live.
+/// The trees in their order, with the mirrors of those that are live. Shares have the ids and the pages of mirrors in common.
 #[derive(Drop)]
 pub struct Table {
-    ids: Seq<TreeId>,
-    mirrors: Mirrors,
+    ids: Arc<Seq<TreeId>>,
+    mirrors: ByTree<Mirror>,
 }
 
 impl Model for Table {
+    ghost use Rattle.std.specs.Arc.{arc_value};
     ghost use Rattle.ax_tree.specs.Forest.{Forest};
     ghost use Rattle.ax_forest.specs.Shown.{shown, coded_forest, IsTable};
 
@@ -34,9 +33,9 @@ impl Model for Table {
 
     ghost coded = { coded_forest };
 
-    ghost view = { λ t. shown t.ids t.mirrors };
+    ghost view = { λ t. shown (arc_value t.ids) t.mirrors };
 
-    ghost invariant = { λ t. IsTable t.ids t.mirrors };
+    ghost invariant = { λ t. IsTable (arc_value t.ids) t.mirrors };
 }
 
 impl Table {
@@ -47,7 +46,7 @@ impl Table {
         ensures { IfOk result (λ t. t ≡ empty_forest trees.now) }
     {
         let mirrors = empty_mirrors(alloc, trees)?;
-        let ids = Seq::from_slice(alloc, trees)?;
+        let ids = shared_ids(alloc, trees)?;
         Ok(Table { ids, mirrors })
     }
 
@@ -69,80 +68,55 @@ impl Table {
         ensures low { IfSome result (λ m. height m.now.trees ≤ 256) }
         ensures sound { IsSound self.now }
     {
-        mirror_at(&self.mirrors, t)
+        self.mirrors.get(t)
     }
 
     /// The tree has this mirror now.
-    pub fn put(&mut self, t: TreeId, mirror: Shared)
+    pub fn put(&mut self, t: TreeId, mirror: Mirror) -> Result<(), NoMemory>
         requires listed { contains (ids_of self.old) t ≡ true }
         requires sound { IsSoundTree t mirror }
-        ensures { self.new ≡ retold t mirror self.old }
+        ensures ok { OnOk result (self.new ≡ retold t mirror self.old) }
+        ensures err { OnErr result (self.new ≡ self.old) }
     {
-        put(&mut self.mirrors, t, Some(mirror));
+        self.mirrors.put(t, mirror)
     }
 
     /// The tree is gone.
-    pub fn drop_tree(&mut self, t: TreeId)
-        ensures { self.new ≡ dropped t self.old }
+    pub fn drop_tree(&mut self, t: TreeId) -> Result<(), NoMemory>
+        ensures ok { OnOk result (self.new ≡ dropped t self.old) }
+        ensures err { OnErr result (self.new ≡ self.old) }
     {
-        put(&mut self.mirrors, t, None);
+        self.mirrors.take(t)
     }
 
-    /// A table of the same mirrors, at the cost of a count for each tree.
-    pub fn copy(&self, alloc: Global) -> Result<Table, NoMemory>
+    /// The same table, in constant time.
+    pub fn share(&self) -> Result<Table, NoMemory>
         ensures { IfOk result (λ t. t ≡ self.now) }
     {
-        let ids = self.ids.copy()?;
-        let mirrors = copy_mirrors(alloc, self.mirrors.as_slice())?;
-        Ok(Table { ids, mirrors })
+        let mirrors = self.mirrors.share()?;
+        match Arc::try_clone(&self.ids) {
+            Ok(ids) => Ok(Table { ids, mirrors }),
+            Err(_) => Err(NoMemory),
+        }
     }
 }
 
-fn mirror_at(mirrors: &Mirrors, t: TreeId) -> Option<&Mirror>
-    ensures { option_copied result ≡ at_id mirrors.now t }
+fn shared_ids(alloc: Global, trees: &[TreeId]) -> Result<Arc<Seq<TreeId>>, NoMemory>
+    ensures { IfOk result (λ ids. arc_value ids ≡ trees.now) }
 {
-    match value_at(mirrors, t) {
-        Some(mirror) => Some(mirror.get()),
-        None => None,
+    let ids = Seq::from_slice(alloc, trees)?;
+    match Arc::new(alloc, ids) {
+        Ok(ids) => Ok(ids),
+        Err(_) => Err(NoMemory),
     }
 }
 
-fn empty_mirrors(alloc: Global, trees: &[TreeId]) -> Result<Mirrors, NoMemory>
-    ensures { IfOk result (IsFilled empty trees.now) }
+fn empty_mirrors(alloc: Global, trees: &[TreeId]) -> Result<ByTree<Mirror>, NoMemory>
+    ensures { IfOk result (AreEmpty trees.now) }
 {
-    let mut mirrors = Mirrors::new(alloc);
+    let mut mirrors = ByTree::new(alloc);
     for tree in trees {
-        fill_empty(alloc, &mut mirrors, *tree)?;
+        mirrors.put(*tree, Mirror::new(alloc, *tree))?;
     }
     Ok(mirrors)
-}
-
-fn fill_empty(alloc: Global, mirrors: &mut Mirrors, t: TreeId) -> Result<(), NoMemory>
-    ensures puts { OnOk result (Puts t (Some (empty t)) mirrors.old mirrors.new) }
-    ensures place { OnOk result (HasPlace mirrors.new t) }
-    ensures places { OnOk result (KeepsPlaces mirrors.old mirrors.new) }
-{
-    let mirror = Shared::new(alloc, Mirror::new(alloc, t))?;
-    fill(mirrors, t, mirror)?;
-    Ok(())
-}
-
-fn copy_mirrors(alloc: Global, mirrors: &[Option<Shared>]) -> Result<Mirrors, NoMemory>
-    ensures { IfOk result (λ copy. copy ≡ mirrors.now) }
-{
-    let mut copy = Mirrors::new(alloc);
-    copy.reserve(mirrors.len())?;
-    for mirror in mirrors {
-        copy.push(share(mirror)?)?;
-    }
-    Ok(copy)
-}
-
-fn share(mirror: &Option<Shared>) -> Result<Option<Shared>, NoMemory>
-    ensures { IfOk result (λ m. m ≡ mirror.now) }
-{
-    match mirror {
-        Some(mirror) => Ok(Some(mirror.share()?)),
-        None => Ok(None),
-    }
 }

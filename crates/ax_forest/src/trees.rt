@@ -1,13 +1,10 @@
-//! The trees of a forest as a grove, whose parts views share.
-ghost use Rattle.std.specs.Prelude.{◌≡◌, ◌≤◌, length, true, OnOk, OnErr, IfOk};
-ghost use Rattle.std.specs.Arc.{arc_value};
+//! The trees of a forest as a grove, which views share.
+ghost use Rattle.std.specs.Prelude.{◌≡◌, ◌≤◌, length, OnOk, OnErr, IfOk};
 ghost use Rattle.ax_trees.specs.Lists.{NoneTwice};
-ghost use Rattle.ax_tree.specs.Forest.{Forest};
 ghost use Rattle.ax_managers.specs.Managed.{Tells};
 ghost use Rattle.ax_managers.specs.Telling.{empty_forest, retold, dropped};
 ghost use Rattle.ax_forest.specs.Shown.{ids_of, MayFollow};
 
-use crate::shared::Shared;
 use crate::table::Table;
 use ax_base::{NoMemory, NodeId, Place, TreeId};
 use ax_managers::Managers;
@@ -15,19 +12,16 @@ use ax_mirror::Mirror;
 use ax_tree::Grove;
 use std::alloc::Global;
 use std::marker::Model;
-use std::sync::Arc;
 
-/// The trees with their mirrors, and which of them hangs where. Views share the table: a change copies it first where a view
-/// holds it.
+/// The trees with their mirrors, and which of them hangs where. A view is a share of both: the next change of a tree copies
+/// the table of pages and the page of that tree, and leaves the view what it has.
 #[derive(Drop)]
 pub struct Trees {
-    table: Arc<Table>,
+    table: Table,
     managers: Managers,
-    alloc: Global,
 }
 
 impl Model for Trees {
-    ghost use Rattle.std.specs.Arc.{arc_value};
     ghost use Rattle.ax_tree.specs.Forest.{Forest};
     ghost use Rattle.ax_managers.specs.Managed.{Tells};
     ghost use Rattle.ax_forest.specs.Shown.{coded_forest};
@@ -36,9 +30,9 @@ impl Model for Trees {
 
     ghost coded = { coded_forest };
 
-    ghost view = { λ t. arc_value t.table };
+    ghost view = { λ t. t.table };
 
-    ghost invariant = { λ t. Tells t.managers (arc_value t.table) };
+    ghost invariant = { λ t. Tells t.managers t.table };
 }
 
 impl Trees {
@@ -50,14 +44,16 @@ impl Trees {
     {
         let table = Table::new(alloc, trees)?;
         let managers = Managers::new(alloc, trees)?;
-        match Arc::new(alloc, table) {
-            Ok(table) => Ok(Trees {
-                table,
-                managers,
-                alloc,
-            }),
-            Err(_) => Err(NoMemory),
-        }
+        Ok(Trees { table, managers })
+    }
+
+    /// The same trees, in constant time.
+    pub fn share(&self) -> Result<Trees, NoMemory>
+        ensures { IfOk result (λ t. t ≡ self.now) }
+    {
+        let table = self.table.share()?;
+        let managers = self.managers.share()?;
+        Ok(Trees { table, managers })
     }
 
     pub fn ids(&self) -> &[TreeId]
@@ -67,19 +63,12 @@ impl Trees {
     }
 
     /// The live tree has this mirror now, which differs from the old one at touched ids alone.
-    pub fn retell(&mut self, t: TreeId, mirror: Shared, touched: &[NodeId]) -> Result<(), NoMemory>
+    pub fn retell(&mut self, t: TreeId, mirror: Mirror, touched: &[NodeId]) -> Result<(), NoMemory>
         requires { MayFollow self.old t mirror touched.now }
         ensures ok { OnOk result (self.new ≡ retold t mirror self.old) }
         ensures err { OnErr result (self.new ≡ self.old) }
     {
-        retell_in(
-            self.alloc,
-            &mut self.table,
-            &mut self.managers,
-            t,
-            mirror,
-            touched,
-        )
+        retell_in(&mut self.table, &mut self.managers, t, mirror, touched)
     }
 
     /// The tree is gone.
@@ -87,65 +76,31 @@ impl Trees {
         ensures ok { OnOk result (self.new ≡ dropped t self.old) }
         ensures err { OnErr result (self.new ≡ self.old) }
     {
-        drop_in(self.alloc, &mut self.table, t)?;
+        self.table.drop_tree(t)?;
         self.managers.drop_tree(t);
         Ok(())
     }
 }
 
+/// The managers are told on a share, so that nothing has changed where the table wants memory.
 fn retell_in(
-    alloc: Global,
-    table: &mut Arc<Table>,
+    table: &mut Table,
     managers: &mut Managers,
     t: TreeId,
-    mirror: Shared,
+    mirror: Mirror,
     touched: &[NodeId],
 ) -> Result<(), NoMemory>
-    requires { MayFollow (arc_value table.old) t mirror touched.now }
-    ensures table { OnOk result (arc_value table.new ≡ retold t mirror (arc_value table.old)) }
-    ensures tells { OnOk result (Tells managers.old (arc_value table.old) → Tells managers.new (arc_value table.new)) }
-    ensures table_stays { OnErr result (arc_value table.new ≡ arc_value table.old) }
+    requires { MayFollow table.old t mirror touched.now }
+    ensures table { OnOk result (table.new ≡ retold t mirror table.old) }
+    ensures tells { OnOk result (Tells managers.old table.old → Tells managers.new table.new) }
+    ensures table_stays { OnErr result (table.new ≡ table.old) }
     ensures managers_stay { OnErr result (managers.new ≡ managers.old) }
 {
-    own(alloc, table)?;
-    let Some(table) = Arc::get_mut(table) else {
-        return Err(NoMemory);
-    };
-    managers.retouch(t, mirror.get(), touched)?;
-    table.put(t, mirror);
+    let mut next = managers.share()?;
+    next.retouch(t, &mirror, touched)?;
+    table.put(t, mirror)?;
+    *managers = next;
     Ok(())
-}
-
-fn drop_in(alloc: Global, table: &mut Arc<Table>, t: TreeId) -> Result<(), NoMemory>
-    ensures ok { OnOk result (arc_value table.new ≡ dropped t (arc_value table.old)) }
-    ensures err { OnErr result (arc_value table.new ≡ arc_value table.old) }
-{
-    own(alloc, table)?;
-    match Arc::get_mut(table) {
-        Some(table) => {
-            table.drop_tree(t);
-            Ok(())
-        }
-        None => Err(NoMemory),
-    }
-}
-
-/// Puts a copy in the place of a table that has other owners.
-fn own(alloc: Global, table: &mut Arc<Table>) -> Result<(), NoMemory>
-    ensures { arc_value table.new ≡ arc_value table.old }
-{
-    // No clause says that an `Arc` has no other owner; only `get_mut` tells.
-    if let Some(_own) = Arc::get_mut(table) {
-        return Ok(());
-    }
-    let copy = table.copy(alloc)?;
-    match Arc::new(alloc, copy) {
-        Ok(copy) => {
-            *table = copy;
-            Ok(())
-        }
-        Err(_) => Err(NoMemory),
-    }
 }
 
 impl Grove for Trees {

@@ -29,7 +29,7 @@ use Rattle.ax_source.specs.Source.{IsMarkRefusal, Source, after_edit as source_e
 use Rattle.ax_views.proofs.Walking.{tree_at_none}
 use Rattle.ax_laws.proofs.EditsKeep.{contains_add, contains_adds, delivery_kept}
 use Rattle.ax_laws.proofs.FrameSteps.{Kept, edit_in_step, frame_push, kept_frame, mark_below_in_step, mark_in_step}
-use Rattle.ax_frame.specs.Frames.{Journaled, Holds, IsSending, all_kept, edit_answered, is_no_memory, lacks_memory, with_entry}
+use Rattle.ax_frame.specs.Frames.{Journaled, HoldsFrame, IsSending, all_kept, edit_answered, is_no_memory, lacks_memory, with_entry}
 use Rattle.ax_serializer.specs.Sending.{Sending}
 
 none_from : {A : Type 0} (o : Option A) → o ≡ None → is_none o ≡ true
@@ -52,7 +52,7 @@ pending_marked f z b c = let m : is_nil f.marks ≡ false = not_nil f.marks z c 
 pending_flagged : (f : Frame) → is_bare f.source.trees ≡ false → f.flag ≡ true → pending f ≡ true
 pending_flagged f b g = grind (arith, b, g)
 
-pending_rooted : (f : Frame) → pending f ≡ true → is_bare f.source.trees ≡ false
+pub pending_rooted : (f : Frame) → pending f ≡ true → is_bare f.source.trees ≡ false
 pending_rooted f p = grind (arith, p)
 
 -- an edit of nodes leaves a mark
@@ -87,11 +87,11 @@ pending_edit (Data d) f r st p = pending_flagged (record f { source = edited (Da
 pub in_step : (t : ℕ) (f : Frame) (m : List ℕ) (r : Trees Look) → Kept t f → TreesInStep r f.source.trees m → InStep (record { about = f.sent.about; trees = r }) f.source m f.flag (is_bare f.sent.trees)
 in_step t f m r k st = record { trees = st; same_tree = k.step.same_tree; same_data = k.step.same_data }
 
-module _ (t : ℕ) (f : Frame) (kf : Kept t f) (s : Source) (c : Client) (kept : List TreeUpdate) (slip : List Edit) (passes token : ℕ) (short : Bool) (k : Holds f s c kept slip passes token short) where
+module _ (t : ℕ) (f : Frame) (kf : Kept t f) (s : Source) (c : Client) (kept : List TreeUpdate) (slip : List Edit) (passes token : ℕ) (short : Bool) (k : HoldsFrame f s c kept slip passes token short) where
   sd : IsSending f s.marks c kept
   sd = k.sending
 
-  pub edit_holds : (e : Edit) → refusal e s.tree ≡ None → Holds (after_edit e f) (source_edited e s) c kept (slip ++ e ∷ []) passes token short
+  pub edit_holds : (e : Edit) → refusal e s.tree ≡ None → HoldsFrame (after_edit e f) (source_edited e s) c kept (slip ++ e ∷ []) passes token short
   edit_holds e h =
       let h' : refusal e f.source ≡ None = sym (ap (refusal e) k.source) ∙ h in
       let q : is_none (refusal e f.source) ≡ true = none_from (refusal e f.source) h' in
@@ -116,12 +116,12 @@ module _ (t : ℕ) (f : Frame) (kf : Kept t f) (s : Source) (c : Client) (kept :
         };
       }
 
-  pub refused_edit : (e : Edit) (x : EditErr) → refusal e s.tree ≡ Some x → Holds (after_edit e f) s c kept slip passes token short
+  pub refused_edit : (e : Edit) (x : EditErr) → refusal e s.tree ≡ Some x → HoldsFrame (after_edit e f) s c kept slip passes token short
   refused_edit e x h =
       let q : is_none (refusal e f.source) ≡ false = ap is_none (sym (ap (refusal e) k.source) ∙ h) in
       rw q k
 
-  pub mark_holds : (z : ℕ) → has s.tree.trees z ≡ true → Holds (after_entry t (Marked z) f) (record s { marks = add_mark s.marks z }) c kept slip passes token short
+  pub mark_holds : (z : ℕ) → has s.tree.trees z ≡ true → HoldsFrame (after_entry t (Marked z) f) (record s { marks = add_mark s.marks z }) c kept slip passes token short
   mark_holds z h =
       let q : has f.source.trees z ≡ true = sym (ap (λ (v : Tree). has v.trees z) k.source) ∙ h in
       let st = mark_in_step z (record { about = f.sent.about; trees = sd.receiver }) f.source s.marks f.flag (is_bare f.sent.trees) (in_step t f s.marks sd.receiver kf sd.step) q in
@@ -144,10 +144,10 @@ module _ (t : ℕ) (f : Frame) (kf : Kept t f) (s : Source) (c : Client) (kept :
         };
       }
 
-  pub refused_mark : (z : ℕ) → has s.tree.trees z ≡ false → Holds (after_entry t (Marked z) f) s c kept slip passes token short
+  pub refused_mark : (z : ℕ) → has s.tree.trees z ≡ false → HoldsFrame (after_entry t (Marked z) f) s c kept slip passes token short
   refused_mark z h = let q : has f.source.trees z ≡ false = sym (ap (λ (v : Tree). has v.trees z) k.source) ∙ h in rw q k
 
-  pub mark_below_holds : (z : ℕ) → Holds (after_entry t (MarkedBelow z) f) (record s { marks = add_marks s.marks (pre s.tree.trees z) }) c kept slip passes token short
+  pub mark_below_holds : (z : ℕ) → HoldsFrame (after_entry t (MarkedBelow z) f) (record s { marks = add_marks s.marks (pre s.tree.trees z) }) c kept slip passes token short
   mark_below_holds z =
       let st = mark_below_in_step z (record { about = f.sent.about; trees = sd.receiver }) f.source s.marks f.flag (is_bare f.sent.trees) (in_step t f s.marks sd.receiver kf sd.step) in
       record {
@@ -178,13 +178,13 @@ module _ (t : ℕ) (f : Frame) (kf : Kept t f) (s : Source) (c : Client) (kept :
           (λ q. by_go (is_nil (add_marks g.marks ts)) (λ r. grind (arith, p, q, r)) (λ r. grind (arith, p, q, r)))
           (λ q. let r : is_nil (add_marks g.marks ts) ≡ false = nil_adds g.marks ts q in grind (arith, p, q, r))
 
-  pub refused_mark_below : (z : ℕ) → has s.tree.trees z ≡ false → Holds (after_entry t (MarkedBelow z) f) s c kept slip passes token short
+  pub refused_mark_below : (z : ℕ) → has s.tree.trees z ≡ false → HoldsFrame (after_entry t (MarkedBelow z) f) s c kept slip passes token short
   refused_mark_below z h =
       let q : has f.source.trees z ≡ false = sym (ap (λ (v : Tree). has v.trees z) k.source) ∙ h in
       let none : tree_at f.source.trees z ≡ bare = tree_at_none f.source.trees z q in
       rw none k
 
-  pub delivered_holds : (n : ℕ) → Holds (after_entry t (Delivered (record { 0 = n })) f) s bare [] slip passes n false
+  pub delivered_holds : (n : ℕ) → HoldsFrame (after_entry t (Delivered (record { 0 = n })) f) s bare [] slip passes n false
   delivered_holds n = record {
     source = k.source;
     flag = k.flag;
@@ -206,7 +206,7 @@ module _ (t : ℕ) (f : Frame) (kf : Kept t f) (s : Source) (c : Client) (kept :
 
 -- ---- at the journal
 
-pub new_holds : (t : ℕ) → Holds (frame_of t []) (record { tree = empty t; marks = []; changed = false }) bare [] [] 0 0 false
+pub new_holds : (t : ℕ) → HoldsFrame (frame_of t []) (record { tree = empty t; marks = []; changed = false }) bare [] [] 0 0 false
 new_holds t = record {
   source = refl;
   flag = refl;
@@ -228,9 +228,9 @@ new_holds t = record {
 
 -- one entry more
 pub at_entry : (t : ℕ) (journal now : List JEntry) (e : JEntry) (s : Source) (c : Client) (kept : List TreeUpdate) (slip : List Edit) (passes token : ℕ) (short : Bool) → now ≡ journal ++ e ∷ []
-    → Holds (after_entry t e (frame_of t journal)) s c kept slip passes token short → Holds (frame_of t now) s c kept slip passes token short
+    → HoldsFrame (after_entry t e (frame_of t journal)) s c kept slip passes token short → HoldsFrame (frame_of t now) s c kept slip passes token short
 at_entry t journal now e s c kept slip passes token short j h =
-    subst (λ f. Holds f s c kept slip passes token short) (sym (ap (frame_of t) j ∙ frame_push t journal e (new_frame t))) h
+    subst (λ f. HoldsFrame f s c kept slip passes token short) (sym (ap (frame_of t) j ∙ frame_push t journal e (new_frame t))) h
 
 -- ---- answers
 
@@ -275,9 +275,9 @@ dropped_last xs ys zs x e h = h ∙ ap (λ ws. take (length ws - 1) ws) e ∙ wi
 -- ---- by what is seen
 
 pub new_holds_as : (t : ℕ) (s : Source) (z : Sending) (journal : List JEntry) (slip : List Edit) → s ≡ record { tree = empty t; marks = []; changed = false } → z ≡ record { client = bare; kept = [] } → journal ≡ [] → slip ≡ []
-    → Holds (frame_of t journal) s z.client (all_kept z.kept None) slip 0 0 false
+    → HoldsFrame (frame_of t journal) s z.client (all_kept z.kept None) slip 0 0 false
 new_holds_as t s z journal slip es ez ej el =
-    subst (λ v. Holds (frame_of t journal) v z.client (all_kept z.kept None) slip 0 0 false) (sym es)
-    (subst (λ (v : Sending). Holds (frame_of t journal) (record { tree = empty t; marks = []; changed = false }) v.client (all_kept v.kept None) slip 0 0 false) (sym ez)
-    (subst (λ js. Holds (frame_of t js) (record { tree = empty t; marks = []; changed = false }) bare [] slip 0 0 false) (sym ej)
-    (subst (λ es. Holds (frame_of t []) (record { tree = empty t; marks = []; changed = false }) bare [] es 0 0 false) (sym el) (new_holds t))))
+    subst (λ v. HoldsFrame (frame_of t journal) v z.client (all_kept z.kept None) slip 0 0 false) (sym es)
+    (subst (λ (v : Sending). HoldsFrame (frame_of t journal) (record { tree = empty t; marks = []; changed = false }) v.client (all_kept v.kept None) slip 0 0 false) (sym ez)
+    (subst (λ js. HoldsFrame (frame_of t js) (record { tree = empty t; marks = []; changed = false }) bare [] slip 0 0 false) (sym ej)
+    (subst (λ es. HoldsFrame (frame_of t []) (record { tree = empty t; marks = []; changed = false }) bare [] es 0 0 false) (sym el) (new_holds t))))

@@ -21,10 +21,10 @@ use Rattle.ax_laws.proofs.FrameSteps.{Kept, self_in_step}
 use Rattle.ax_laws.proofs.Sent.{is_bare-shape, resumed_bundle_reach}
 use Rattle.ax_serializer.specs.Sending.{is_fresh}
 use Rattle.ax_source.specs.Source.{Source}
-use Rattle.ax_frame.specs.Frames.{Holds, IsSending, begins_fresh}
+use Rattle.ax_frame.specs.Frames.{HoldsFrame, IsSending, begins_fresh}
 use Rattle.ax_frame.specs.Passes.{Completes, IsPass, StaysSending, is_fresh_pass}
-use Rattle.ax_frame.proofs.Holding.{in_step}
-use Rattle.ax_frame.proofs.Rounds.{fresh_is, receiver_none, rooted, whole_updates}
+use Rattle.ax_frame.proofs.Holding.{in_step, pending_rooted}
+use Rattle.ax_frame.proofs.Rounds.{fresh_is, receiver_none, whole_updates}
 
 -- the serializer's test of a bundle is that of its updates without tree data
 pub fresh_kept : (us : List TreeUpdate) → is_fresh us ≡ begins_fresh (map nodes_part us)
@@ -53,10 +53,10 @@ same_packet : (t n k p b tok tik : ℕ) (e l : List Edit) (us vs : List TreeUpda
     (record { tree = t; pass = record { 0 = k }; base = record { 0 = b }; token = record { 0 = tik }; slip = l; bundle = vs })
 same_packet t n k p b tok tik e l us vs en ep et ee eu = λ z. record { tree = t; pass = record { 0 = en z }; base = record { 0 = ep z }; token = record { 0 = et z }; slip = ee z; bundle = eu z }
 
-module _ (t : ℕ) (f : Frame) (kf : Kept t f) (s : Source) (c : Client) (kept : List TreeUpdate) (slip : List Edit) (passes token : ℕ) (short : Bool) (k : Holds f s c kept slip passes token short) where
+module _ (t : ℕ) (f : Frame) (kf : Kept t f) (s : Source) (c : Client) (kept : List TreeUpdate) (slip : List Edit) (passes token : ℕ) (short : Bool) (k : HoldsFrame f s c kept slip passes token short) where
   -- the updates that were made before want of memory are kept
   pub short_holds : (now : Source) (after : Client) (all : List TreeUpdate) → pending f ≡ true → StaysSending s.tree s.marks c kept now.marks after all → now.tree ≡ s.tree → now.changed ≡ s.changed
-      → Holds (after_entry t Short f) now after all slip passes token true
+      → HoldsFrame (after_entry t Short f) now after all slip passes token true
   short_holds now after all p stays et ec = record {
     source = et ∙ k.source;
     flag = ec ∙ k.flag;
@@ -68,12 +68,12 @@ module _ (t : ℕ) (f : Frame) (kf : Kept t f) (s : Source) (c : Client) (kept :
   }
 
   -- where there is nothing to send, a pass changes nothing
-  pub idle_holds : pending f ≡ false → Holds (after_entry t Passed f) s c kept slip passes token short
+  pub idle_holds : pending f ≡ false → HoldsFrame (after_entry t Passed f) s c kept slip passes token short
   idle_holds p = rw p k
 
   -- after a packet nothing is kept, and the receiver has the source
   pub passed_holds : (now : Source) (after : Client) (all : List TreeUpdate) (left : List Edit) (n : ℕ) → pending f ≡ true → Completes s.tree s.marks c kept after → now.tree ≡ s.tree → now.changed ≡ false → now.marks ≡ [] → all ≡ []
-      → left ≡ [] → n ≡ suc passes → Holds (after_entry t Passed f) now after all left n token false
+      → left ≡ [] → n ≡ suc passes → HoldsFrame (after_entry t Passed f) now after all left n token false
   passed_holds now after all left n p done et ec em ea el en =
       let client : after ≡ shape f.source.trees = done (record f { short = true }) (sym k.source) refl p (as_short f s.marks c kept k.sending) ∙ ap (λ (v : Tree). shape v.trees) k.source in
       let own : InStep f.source f.source [] false true = self_in_step f.source kf.step.trees.source kf.step.trees.source_low true in
@@ -98,7 +98,7 @@ module _ (t : ℕ) (f : Frame) (kf : Kept t f) (s : Source) (c : Client) (kept :
       }
 
   fresh_as : (fresh : Bool) → pending f ≡ true → fresh ≡ is_fresh_pass kept c s.tree.trees s.marks → fresh ≡ is_bare f.sent.trees
-  fresh_as fresh p e = e ∙ ap (λ (v : Tree). is_fresh_pass kept c v.trees s.marks) k.source ∙ fresh_is f s.marks c kept (rooted f p) k.sending
+  fresh_as fresh p e = e ∙ ap (λ (v : Tree). is_fresh_pass kept c v.trees s.marks) k.source ∙ fresh_is f s.marks c kept (pending_rooted f p) k.sending
 
   bundle_as : (fresh : Bool) (us : List TreeUpdate) → pending f ≡ true → fresh ≡ is_fresh_pass kept c s.tree.trees s.marks → us ≡ resumed_bundle (map nodes_part kept) c s.tree s.marks s.changed fresh
       → us ≡ resumed_bundle (map nodes_part kept) c f.source s.marks f.flag (is_bare f.sent.trees)

@@ -12,7 +12,7 @@ use Rattle.ax_trees.proofs.Trees.{by_go}
 use Rattle.ax_trees.proofs.Lists.{length-filter, same_Ok}
 use Rattle.ax_tree.specs.declared.update.TreeUpdate.{TreeUpdate}
 use Rattle.ax_tree.specs.UpdateRule.{Update}
-use Rattle.ax_tree.specs.SerialRule.{is_plain, last_held, partial_update, trees_update}
+use Rattle.ax_tree.specs.SerialRule.{last_held, trees_update}
 use Rattle.ax_tree.specs.InStep.{TreesInStep, lists, marks_left}
 use Rattle.ax_tree.specs.Bundles.{Client, client_after, first_update, rounds, trees_after_all, trees_updates}
 use Rattle.ax_tree.specs.Tree.{Tree}
@@ -29,6 +29,8 @@ use Rattle.ax_serializer.specs.Sending.{Sending}
 use Rattle.ax_source.specs.Source.{Source}
 use Rattle.ax_frame.specs.Frames.{all_kept, begins_fresh, IsSending}
 use Rattle.ax_frame.specs.Passes.{is_fresh_pass, Completes, StaysSending}
+use Rattle.ax_serializer.proofs.Takings.{partial_root}
+use Rattle.ax_frame.proofs.Holding.{pending_rooted}
 
 -- ---- lists
 
@@ -47,9 +49,6 @@ ok_all (Ok x) f p q h = f p q h
 ok_all (Err e) f p q h = tt
 
 -- ---- where a bundle begins
-
-partial_root : {X E : Type 0} (c : Trees E) (s : Trees X) (m : List ℕ) (r a : ℕ) → (partial_update c s m r a).root ≡ None
-partial_root c s m r a = by_go (is_plain c s m r a) (λ p. rw p refl) (λ p. rw p refl)
 
 root_some : {X : Type 0} (s : Trees X) → is_bare s ≡ false → is_some (root_of s) ≡ true
 root_some bare h = absurd (false≢true (sym h))
@@ -95,9 +94,6 @@ receiver_none f m c kept sd e = same_Ok f.sent.trees sd.receiver (sym (ap (λ ks
 client_bare : (f : Frame) (m : List ℕ) (c : Client) (kept : List TreeUpdate) → IsSending f m c kept → kept ≡ [] → is_bare c ≡ is_bare f.sent.trees
 client_bare f m c kept sd e = ap is_bare sd.known ∙ is_bare-shape sd.receiver ∙ ap is_bare (sym (receiver_none f m c kept sd e))
 
-pub rooted : (f : Frame) → pending f ≡ true → is_bare f.source.trees ≡ false
-rooted f p = grind (arith, p)
-
 -- One kept update keeps a frame sending.
 pub round_sends : (f : Frame) (m : List ℕ) (c : Client) (kept : List TreeUpdate) (d : ℕ) → f.short ≡ true → pending f ≡ true → has f.source.trees d ≡ true → IsSending f m c kept
     → IsSending f (marks_after_update (update_of c f.source m d) d m) (client_after_update c (update_of c f.source m d)) (kept ++ update_of c f.source m d ∷ [])
@@ -118,7 +114,7 @@ round_sends f m c kept d sh p h sd =
       some = λ n. p;
       whole = λ e. absurd (false≢true (sym e ∙ sh));
       fresh = λ n. ap begins_fresh (parts_push kept c f.source m d)
-          ∙ ⊎_elim (λ e. ap (λ ks. begins_fresh (map nodes_part ks ++ trees_update c f.source.trees m d ∷ [])) e ∙ update_fresh c f.source.trees m d [] (rooted f p) ∙ client_bare f m c kept sd e)
+          ∙ ⊎_elim (λ e. ap (λ ks. begins_fresh (map nodes_part ks ++ trees_update c f.source.trees m d ∷ [])) e ∙ update_fresh c f.source.trees m d [] (pending_rooted f p) ∙ client_bare f m c kept sd e)
           (λ e. fresh_more (map nodes_part kept) (trees_update c f.source.trees m d ∷ []) (λ q. e (map_nil kept q)) ∙ sd.fresh e) (nil_or kept);
     }
 

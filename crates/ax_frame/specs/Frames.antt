@@ -77,7 +77,7 @@ pub record IsSending (f : Frame) (m : List ℕ) (c : Client) (kept : List TreeUp
   pub fresh : (kept ≡ [] → ⊥) → begins_fresh (map nodes_part kept) ≡ is_bare f.sent.trees
 
 -- what a frame's fields hold of the frame f of its journal
-pub record Holds (f : Frame) (s : Source) (c : Client) (kept : List TreeUpdate) (slip : List Edit) (passes token : ℕ) (short : Bool) : Type 0 where
+pub record HoldsFrame (f : Frame) (s : Source) (c : Client) (kept : List TreeUpdate) (slip : List Edit) (passes token : ℕ) (short : Bool) : Type 0 where
   pub source : s.tree ≡ f.source
   pub flag : s.changed ≡ f.flag
   pub slips : slip ≡ f.slip

@@ -44,11 +44,11 @@ impl Model for Frame {
     ghost coded = { coded_journaled };
 
     ghost use Rattle.ax_tree.specs.Journals.{frame_of};
-    ghost use Rattle.ax_frame.specs.Frames.{Holds, all_kept};
+    ghost use Rattle.ax_frame.specs.Frames.{HoldsFrame, all_kept};
 
     ghost view = { λ a. record { tree = a.tree; journal = a.journal } };
 
-    ghost invariant = { λ a. Holds (frame_of a.tree a.journal) a.source a.serializer.client (all_kept a.serializer.kept a.back) a.slip a.passes a.token a.short };
+    ghost invariant = { λ a. HoldsFrame (frame_of a.tree a.journal) a.source a.serializer.client (all_kept a.serializer.kept a.back) a.slip a.passes a.token a.short };
 }
 
 impl Frame {

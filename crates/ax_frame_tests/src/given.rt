@@ -1,12 +1,10 @@
-//! Edits, updates and passes for tests, and how they are compared: by all that `Debug` shows of them.
+//! Edits and updates for tests, and how they are compared: by all that `Debug` shows of them.
 ghost use Rattle.ax_tree.specs.Edits.{HasLeaf};
 
-use ax_ask::{UpdateNote, UpdateNotes};
 use ax_attrs::Key;
-use ax_base::{Ids, NodeId, PassNo, Text, Token, TreeId};
-use ax_frame::PassOut;
-use ax_node::{AttrList, NodeData, TreeData, Value};
-use ax_tree::{AttrChange, AttrChanges, Bundle, Edit, Nodes, Packet, SetNode, Slip, TreeUpdate};
+use ax_base::{Ids, NodeId, Text, TreeId};
+use ax_node::{AttrList, NodeData, Value};
+use ax_tree::{AttrChange, AttrChanges, Edit, Nodes, SetNode, Slip, TreeUpdate};
 use std::alloc::Global;
 use std::fmt::Debug;
 use std::process::Abort;
@@ -111,72 +109,11 @@ pub fn one_node(rt: &impl Abort, alloc: Global, node: NodeData) -> Nodes {
     nodes
 }
 
-/// The whole of a tree with this root, for a receiver that has nothing.
-pub fn whole(rt: &impl Abort, alloc: Global, root: u32, nodes: Nodes) -> TreeUpdate {
-    TreeUpdate {
-        clear: None,
-        root: NodeId::new(root),
-        nodes,
-        tree_data: Some(TreeData::blank(alloc, tree_id(rt))),
-    }
-}
-
 pub fn part(nodes: Nodes) -> TreeUpdate {
     TreeUpdate {
         clear: None,
         root: None,
         nodes,
         tree_data: None,
-    }
-}
-
-// ---- passes
-
-/// What is told of one update. A root of 0 is none.
-pub fn told(
-    rt: &impl Abort,
-    alloc: Global,
-    root: u32,
-    nodes: &[u32],
-    with_data: bool,
-) -> UpdateNotes {
-    let mut notes = UpdateNotes::new(alloc);
-    notes
-        .push(UpdateNote {
-            clear: None,
-            root: NodeId::new(root),
-            nodes: ids(rt, alloc, nodes),
-            with_data,
-        })
-        .expect(rt, "memory");
-    notes
-}
-
-/// Pass, base and token of a packet.
-#[derive(Clone, Copy)]
-pub struct Head(pub u64, pub u64, pub u64);
-
-/// A packet of one update, which completes nothing.
-pub fn made(
-    rt: &impl Abort,
-    alloc: Global,
-    head: Head,
-    slip: Slip,
-    update: TreeUpdate,
-    updates: UpdateNotes,
-) -> PassOut {
-    let mut bundle = Bundle::new(alloc);
-    bundle.push(update).expect(rt, "memory");
-    PassOut::Made {
-        packet: Packet {
-            tree: tree_id(rt),
-            pass: PassNo(head.0),
-            base: PassNo(head.1),
-            token: Token(head.2),
-            slip,
-            bundle,
-        },
-        resumed: false,
-        updates,
     }
 }

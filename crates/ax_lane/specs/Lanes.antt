@@ -29,22 +29,22 @@ IsBack [] t = ⊥
 IsBack (b ∷ bs) t = (b.0 ≡ t) ⊎ IsBack bs t
 
 -- of the tree the log has these packets, at these places
-abbrev pub Stands : List Packet → ℕ → List Packet → List ℕ → Type 0
-Stands log tree sent places = (of_tree tree log ≡ sent) × (places_of tree 0 log ≡ places)
+abbrev pub IsInLog : List Packet → ℕ → List Packet → List ℕ → Type 0
+IsInLog log tree sent places = (of_tree tree log ≡ sent) × (places_of tree 0 log ≡ places)
 
 -- of each tree that was taken back, the log has what its sender sent, where it was sent
 abbrev pub Backs : List Packet → List ℕ → List Back → Type 0
 Backs log trees [] = Unit {0}
-Backs log trees (b ∷ bs) = Stands log b.0 b.1 b.2 × Includes trees b.0 × Backs log trees bs
+Backs log trees (b ∷ bs) = IsInLog log b.0 b.1 b.2 × Includes trees b.0 × Backs log trees bs
 
 -- what the rule says of one end: a sender has sent what the log has of its tree, and one end alone takes
-pub record Fits (log got : List Packet) (trees : List ℕ) (seat port : ℕ) (v : Holding) : Type 0 where
-  pub sends : v.sends ≡ true → Stands log v.tree v.sent v.places × Includes trees v.tree × (v.takes ≡ false)
+pub record EndFits (log got : List Packet) (trees : List ℕ) (seat port : ℕ) (v : Holding) : Type 0 where
+  pub sends : v.sends ≡ true → IsInLog log v.tree v.sent v.places × Includes trees v.tree × (v.takes ≡ false)
   pub takes : v.takes ≡ true → (port ≡ seat) × (v.got ≡ got) × (v.trees ≡ trees) × Backs log trees v.back
 
 -- one sender for each tree, and none for a tree that was taken back
-abbrev pub Apart : Holding → Holding → Type 0
-Apart v w =
+abbrev pub EndsApart : Holding → Holding → Type 0
+EndsApart v w =
     (v.sends ≡ true → w.sends ≡ true → ¬ (v.tree ≡ w.tree))
     × (v.takes ≡ true → w.sends ≡ true → ¬ (IsBack v.back w.tree))
     × (w.takes ≡ true → v.sends ≡ true → ¬ (IsBack w.back v.tree))
@@ -59,8 +59,8 @@ pub record Lined (items : List Packet) (views : List Holding) : Type 0 where
   pub whole : log ≡ got ++ items
   pub good : (t : ℕ) → IsGood t (of_tree t log)
   pub known : AllOf trees log
-  pub each : (port : ℕ) (v : Holding) → get_elem? views port ≡ some v → Fits log got trees seat port v
-  pub apart : (i j : ℕ) (v w : Holding) → ¬ (i ≡ j) → get_elem? views i ≡ some v → get_elem? views j ≡ some w → Apart v w
+  pub each : (port : ℕ) (v : Holding) → get_elem? views port ≡ some v → EndFits log got trees seat port v
+  pub apart : (i j : ℕ) (v w : Holding) → ¬ (i ≡ j) → get_elem? views i ≡ some v → get_elem? views j ≡ some w → EndsApart v w
 
 -- the packet was sent, and stands at a place
 abbrev pub Sent : Holding → Packet → Holding → Type 0

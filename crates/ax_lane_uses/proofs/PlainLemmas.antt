@@ -8,7 +8,7 @@ use Rattle.ax_tree.specs.Updates.{applied_all}
 use Rattle.ax_tree.specs.Packets.{edited_all, source_at, GoodAt, IsGood}
 use Rattle.ax_lane.specs.Ends.{LaneId, TxView, new_sender, sent_at}
 use Rattle.ax_lane.specs.Packets.{of_tree}
-use Rattle.ax_lane_uses.specs.Plain.{IsPlain, AllPlain, IsWhole, IsNewSender, HasSent}
+use Rattle.ax_lane_uses.specs.Plain.{IsPlain, AllPlain, IsAllOf, IsNewSender, HasSent}
 
 no_slips : (ps : List Packet) (n : ℕ) → ((k : ℕ) (p : Packet) → slice_get ps k ≡ Some p → p.slip ≡ []) → flat_map (λ (p : Packet). p.slip) (take n ps) ≡ []
 no_slips ps zero h = refl
@@ -57,7 +57,7 @@ pub plain_next : (t n : ℕ) (ps : List Packet) (p : Packet) → length ps ≡ n
 plain_next t n ps p count all last = plain_good t (ps ++ p ∷ []) (plain_push t n ps p count all last)
 
 -- what was sent is there, whole and in order
-pub whole_of : (lane : LaneId) (tree count : ℕ) (tx : TxView) (log : List Packet) → HasSent lane tree count tx → of_tree tx.tree log ≡ tx.sent → IsWhole tree count log
+pub whole_of : (lane : LaneId) (tree count : ℕ) (tx : TxView) (log : List Packet) → HasSent lane tree count tx → of_tree tx.tree log ≡ tx.sent → IsAllOf tree count log
 whole_of lane tree count tx log sent same =
     let e : of_tree tree log ≡ tx.sent = ap (λ t. of_tree t log) (sym sent.for_tree) ∙ same in
     record { in_order = subst (AllPlain tree) (sym e) sent.in_order; all_there = ap length e ∙ sent.all_there }

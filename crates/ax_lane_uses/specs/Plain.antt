@@ -17,7 +17,7 @@ pub record AllPlain (tree : ℕ) (packets : List Packet) : Type 0 where
   pub at : (k : ℕ) (p : Packet) → slice_get packets k ≡ Some p → IsPlain tree (suc k) p
 
 -- among the packets are those of this tree with the numbers 1 to count, each once and in that order
-pub record IsWhole (tree count : ℕ) (packets : List Packet) : Type 0 where
+pub record IsAllOf (tree count : ℕ) (packets : List Packet) : Type 0 where
   pub in_order : AllPlain tree (of_tree tree packets)
   pub all_there : length (of_tree tree packets) ≡ count
 

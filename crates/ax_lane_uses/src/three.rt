@@ -2,7 +2,7 @@
 ghost use Rattle.std.specs.Prelude.{◌≡◌, ◌+◌, ◌<◌, ◌^◌, ◌++◌, [], ◌∷◌, IfSome, length};
 ghost use Rattle.ax_lane.specs.Ends.{new_sender};
 ghost use Rattle.ax_lane.specs.Packets.{of_tree};
-ghost use Rattle.ax_lane_uses.specs.Plain.{IsPlain, AllPlain, IsWhole, IsNewSender, HasSent};
+ghost use Rattle.ax_lane_uses.specs.Plain.{IsPlain, AllPlain, IsAllOf, IsNewSender, HasSent};
 
 use ax_base::{PassNo, Seq, Token, TreeId};
 use ax_lane::{Lane, LaneParts, Packets, Rx, Senders, Tx};
@@ -75,8 +75,8 @@ pub fn exchange<R: Threads + Wait + Sync>(
     limit: usize,
 ) -> Option<(Packets, Packets)>
     requires count { count + 1 < 2 ^ 64 }
-    ensures first { IfSome result (λ r. IsWhole 1 count (r.0.items ++ r.1.items)) }
-    ensures second { IfSome result (λ r. IsWhole 2 count (r.0.items ++ r.1.items)) }
+    ensures first { IfSome result (λ r. IsAllOf 1 count (r.0.items ++ r.1.items)) }
+    ensures second { IfSome result (λ r. IsAllOf 2 count (r.0.items ++ r.1.items)) }
 {
     let one = TreeId::new(1)?;
     let two = TreeId::new(2)?;

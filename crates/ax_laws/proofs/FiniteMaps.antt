@@ -11,25 +11,13 @@ use Rattle.ax_trees.specs.Spots.{grown, grown_one, grown_level}
 use Rattle.ax_laws.specs.FiniteMap.{Steps, IsTreeMap}
 use Rattle.ax_trees.proofs.Trees.{by_go, root_in, below_in, contains_roots, root_of_in, distinct_below, agree, not_both}
 use Rattle.ax_trees.proofs.Times.{contains-ids, has-node}
-use Rattle.ax_trees.proofs.Parents.{listed_children, node_children, child_listed, parent_of_child}
+use Rattle.ax_trees.proofs.Parents.{listed_children, node_children, child_listed, parent_of_child, node_named, roots_once}
 use Rattle.ax_trees.proofs.Grown.{node_none}
 
 -- ---- a tree shows as a finite map
 
-pub node_named : {X : Type 0} (f : Trees X) (z : ℕ) (n : Node X) → node_at f z ≡ Some n → n.id ≡ z
-node_named bare z n h = absurd (cc)
-node_named {X} (tree i x k r) z n h =
-    by_go (eqb i z)
-    (λ q. let h' : ◌≡◌ {A = Option (Node X)} (Some (record { id = i; known = x; children = roots k })) (Some n) = rw q at h in
-    ap (λ (u : Node X). u.id) (sym (same_Some _ _ h')) ∙ eqb-true i z q)
-    (λ q. by_go (has k z) (λ p. node_named k z n (rw (q, p) at h)) (λ p. node_named r z n (rw (q, p) at h)))
-
 children_of : {X : Type 0} (f : Trees X) (y z : ℕ) (n : Node X) → node_at f y ≡ Some n → contains n.children z ≡ has_root (below f y) z
 children_of f y z n h = sym (child_listed f y z ∙ ap (λ o. contains (listed_children o) z) h)
-
-roots_once : {X : Type 0} (f : Trees X) → IsDistinct f → NoneTwice (roots f)
-roots_once bare d = tt
-roots_once (tree i x k r) d = (contains_roots r i ∙ false_from_ne_true (has_root r i) (λ g. grind (arith, root_in r i g, d.1)), roots_once r d.4)
 
 is_node : {X : Type 0} (f : Trees X) (z : ℕ) → is_some (node_at f z) ≡ true → has f z ≡ true
 is_node f z h = has-node f z ∙ h
@@ -253,7 +241,7 @@ shows {X} m r t most deep (suc n) l (i ∷ is) e o h =
     (shows_more m r t n l i is (some_of (m i) here.1).0 at o.0 here.0 (λ x c. (h x (grind (arith, c))).0) inner later)
 
 -- the tree of a finite map
-pub record Tells {X : Type 0} (m : ℕ → Option (Node X)) (root : Option ℕ) : Type 0 where
+pub record TellsMap {X : Type 0} (m : ℕ → Option (Node X)) (root : Option ℕ) : Type 0 where
   pub trees : Trees X
   pub is_tree : IsTree trees
   pub root_same : root_of trees ≡ root
@@ -268,7 +256,7 @@ not_some : {A : Type 0} (o : Option A) → is_some o ≡ false → o ≡ None
 not_some None h = refl
 not_some (Some a) h = absurd (false≢true (sym h))
 
-pub map_shown : {X : Type 0} (m : ℕ → Option (Node X)) (root : Option ℕ) → IsTreeMap m root → Tells m root
+pub map_shown : {X : Type 0} (m : ℕ → Option (Node X)) (root : Option ℕ) → IsTreeMap m root → TellsMap m root
 map_shown m None t = record { trees = bare; is_tree = record { one_root = tt; distinct = tt }; root_same = refl; nodes = λ z. sym (not_some (m z) (t.none refl z)) }
 map_shown {X} m (Some r) t =
     let b : Bound m r t.finite.0 = bound m r t t.finite.0 in

@@ -9,8 +9,8 @@ use Rattle.ax_trees.specs.Nodes.{Node, node_at}
 use Rattle.ax_node.specs.Look.{Look}
 use Rattle.ax_tree.specs.Tree.{Tree, IsWellFormed, node, as_node, data_of}
 use Rattle.ax_laws.specs.FiniteMap.{IsTreeMap}
-use Rattle.ax_laws.specs.TreeLaws.{node_map, Told}
-use Rattle.ax_laws.proofs.FiniteMaps.{shows_map, same_map, Tells, map_shown}
+use Rattle.ax_laws.specs.TreeLaws.{node_map, TreeTold}
+use Rattle.ax_laws.proofs.FiniteMaps.{shows_map, same_map, TellsMap, map_shown}
 
 node_of_data : (o : Option (Node Look)) → option_map as_node (option_map data_of o) ≡ o
 node_of_data None = refl
@@ -26,9 +26,9 @@ nodes_are t = fun_ext (λ z. node_of_data (node_at t.trees z))
 pub tree_shows : (t : Tree) → IsWellFormed t → IsTreeMap (node_map (node t)) (root_of t.trees)
 tree_shows t w = subst (λ m. IsTreeMap m (root_of t.trees)) (sym (nodes_are t)) (shows_map t.trees w)
 
-pub tree_told : (about : TreeData) (m : ℕ → Option NodeData) (root : Option ℕ) → IsTreeMap (node_map m) root → Told about m root
+pub tree_told : (about : TreeData) (m : ℕ → Option NodeData) (root : Option ℕ) → IsTreeMap (node_map m) root → TreeTold about m root
 tree_told about m root h =
-    let it : Tells (node_map m) root = map_shown (node_map m) root h in
+    let it : TellsMap (node_map m) root = map_shown (node_map m) root h in
     record {
       tree = record { about = about; trees = it.trees };
       well_formed = it.is_tree;

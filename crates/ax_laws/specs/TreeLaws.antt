@@ -17,7 +17,7 @@ abbrev pub EachTreeIsAFiniteMap : Type 0
 EachTreeIsAFiniteMap = (t : Tree) → IsWellFormed t → IsTreeMap (node_map (node t)) (root_of t.trees)
 
 -- the well formed tree that a finite map tells
-pub record Told (about : TreeData) (m : ℕ → Option NodeData) (root : Option ℕ) : Type 0 where
+pub record TreeTold (about : TreeData) (m : ℕ → Option NodeData) (root : Option ℕ) : Type 0 where
   pub tree : Tree
   pub well_formed : IsWellFormed tree
   pub about_same : tree.about ≡ about
@@ -27,5 +27,5 @@ pub record Told (about : TreeData) (m : ℕ → Option NodeData) (root : Option 
 -- Each such map is shown by one well formed tree, and by no other.
 abbrev pub EachFiniteMapIsOneTree : Type 0
 EachFiniteMapIsOneTree =
-    ((about : TreeData) (m : ℕ → Option NodeData) (root : Option ℕ) → IsTreeMap (node_map m) root → Told about m root)
+    ((about : TreeData) (m : ℕ → Option NodeData) (root : Option ℕ) → IsTreeMap (node_map m) root → TreeTold about m root)
     × ((t q : Tree) → IsWellFormed t → IsWellFormed q → t.about ≡ q.about → root_of t.trees ≡ root_of q.trees → ((z : ℕ) → node t z ≡ node q z) → t ≡ q)

@@ -4,7 +4,7 @@ use Rattle.std.specs.Prelude.{unwrap_or, nat_eq}
 use Rattle.std.specs.List.{list_any}
 use Rattle.std.proofs.lemmas.Bool.{eqb-true, false≢true}
 use Rattle.std.proofs.lemmas.Bool.Decides.{eqb_tells}
-use Rattle.std.proofs.lemmas.List.{drop_more, drop_all, take_more}
+use Rattle.std.proofs.lemmas.List.{drop_all, take_more}
 use Rattle.ax_trees.specs.Trees.{Trees, bare, tree, has, IsDistinct, IsTree}
 use Rattle.ax_trees.specs.Nodes.{below, chain, parent}
 use Rattle.ax_trees.specs.Lists.{contains, common_prefix, last_that}
@@ -13,6 +13,7 @@ use Rattle.ax_trees.proofs.Chains.{chain_below, below_one, chain_front, chain_ab
 use Rattle.ax_views.proofs.Climbing.{IsAbove, is_above}
 use Rattle.ax_tree.specs.SerialRule.{last_common}
 use Rattle.ax_lca.specs.Chains.{last_or}
+use Rattle.ax_client.proofs.Taking.{drop_at}
 
 -- ---- lists
 
@@ -30,9 +31,6 @@ last_that-push p (x ∷ xs) z d = last_that-push p xs z (cond (p x) x d)
 
 pub last_that-next : (p : ℕ → Bool) (ids : List ℕ) (i z d : ℕ) → i < length ids → z ≡ get_or ids i z → last_that p (take (i + 1) ids) d ≡ cond (p z) z (last_that p (take i ids) d)
 last_that-next p ids i z d h e = ap (λ js. last_that p js d) (take_more ids i z h ∙ ap (λ y. take i ids ++ y ∷ []) (sym e)) ∙ last_that-push p (take i ids) z d
-
-pub drop_at : (ids : List ℕ) (i z : ℕ) → i < length ids → z ≡ get_or ids i z → drop i ids ≡ z ∷ drop (i + 1) ids
-drop_at ids i z h e = drop_more ids i z h ∙ ap (λ y. y ∷ drop (i + 1) ids) (sym e)
 
 -- what a mark list has
 pub mark-contains : (m : List ℕ) (z : ℕ) → list_any (λ other. nat_eq other z) m ≡ contains m z

@@ -12,8 +12,9 @@ use Rattle.ax_trees.proofs.Chains.{chain_of_root}
 use Rattle.ax_views.proofs.Climbing.{IsAbove, is_above, none_over_top, root_from_none}
 use Rattle.ax_tree.specs.SerialRule.{is_closed, lowest_closed}
 use Rattle.ax_lca.specs.Closing.{is_at_or_over, fits_below, is_one, all_below_but, IsRaised}
-use Rattle.ax_lca.proofs.Chains.{drop_at, not_both_ways, over_same, chain_up, last_that-push}
+use Rattle.ax_lca.proofs.Chains.{not_both_ways, over_same, chain_up, last_that-push}
 use Rattle.ax_lca.proofs.Levels.{IsLevel, level_below, level_head, level_tail}
+use Rattle.ax_client.proofs.Taking.{drop_at}
 
 -- the climb from `from` has come to `at`, and the id stands below none before that
 pub record IsClimbing {E : Type 0} (c : Trees E) (id from at : ℕ) : Type 0 where

@@ -1,3 +1,4 @@
+//! Reach from an id, and whether it is plain.
 ghost use Rattle.std.specs.Prelude.{◌≡◌, [], ◌∷◌, ◌++◌, ◌&&◌, if◌then◌else◌, filter, reverse, IfOk, IsTrue, OnOk};
 ghost use Rattle.ax_trees.specs.Trees.{has};
 ghost use Rattle.ax_trees.specs.Nodes.{below, tree_at};

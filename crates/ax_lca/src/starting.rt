@@ -1,3 +1,4 @@
+//! Where two chains part, and where reach starts.
 ghost use Rattle.std.specs.Prelude.{◌≡◌, ℕ, None, Some, IfOk, if◌then◌else◌};
 ghost use Rattle.ax_trees.specs.Lists.{common_prefix, last_that};
 ghost use Rattle.ax_trees.specs.Trees.{has, root_of};

@@ -1,8 +1,8 @@
--- Summaries that are of the trees of a forest: they say where each tree hangs.
-use Rattle.std.proofs.Common.{ℕ, ◌≡◌, Bool, true, false, cond, not, ◌||◌, ◌&&◌, ◌==◌, eqb, nat_eq, [], ◌∷◌, map, Option, Some, None, refl, sym, ap, ap₂, subst, ◌∙◌, arith}
+-- What is told of the trees of a forest says where each tree hangs.
+use Rattle.std.proofs.Common.{ℕ, ◌≡◌, Bool, true, false, cond, not, ◌||◌, ◌&&◌, ◌==◌, eqb, [], ◌∷◌, map, Option, Some, None, refl, sym, ap, ap₂, subst, ◌∙◌, arith}
 use Rattle.std.specs.Prelude.{option_map, option_and_then}
 use Rattle.std.specs.List.{find}
-use Rattle.std.specs.HashMap.{get}
+use Rattle.std.specs.FinMap as fin
 use Rattle.std.proofs.lemmas.Option.{same_Some}
 use Rattle.std.proofs.lemmas.Bool.Decides.{eqb_tells}
 use Rattle.std.proofs.lemmas.Bool.{eqb-true, false≢true}
@@ -15,23 +15,23 @@ use Rattle.ax_trees.proofs.Trees.{by_go}
 use Rattle.ax_tree.specs.SerialRule.{all_of}
 use Rattle.ax_tree.specs.Tree.{Tree}
 use Rattle.ax_tree.specs.Forest.{Forest, Standing, first_tree, is_first, live_tree, names_child, host_in, host_of, hosted_by, is_place}
-use Rattle.ax_managers.specs.declared.summary.Summary.{Summary}
-use Rattle.ax_managers.specs.Summaries.{Says}
-use Rattle.ax_managers.specs.Telling.{with_tree, retold, dropped, Stands}
+use Rattle.ax_managers.specs.Managed.{LastTold, IsToldOf, IsTold}
+use Rattle.ax_managers.specs.Telling.{with_tree, retold, dropped, AreOf}
+use Rattle.ax_managers.specs.Shown.{Agrees}
 use Rattle.ax_managers.specs.Hanging.{host_place, told_host_in, told_host_under, told_host_of, told_host, where_hosted, told_hosted_in, told_hosted}
 
 first_is : (f : Forest) (first t : ℕ) → first_tree f ≡ Some first → is_first f t ≡ (first == t)
 first_is [] first t e = absurd (let no : ◌≡◌ {A = Option ℕ} None (Some first) = e in cc)
 first_is (s ∷ ss) first t e = ap (λ i. i == t) (same_Some s.id first e)
 
-module _ (g : ℕ → Option Summary) (f : Forest) (first : ℕ) (at : (t : ℕ) → Stands (g t) (live_tree f t)) (head : first_tree f ≡ Some first) where
+module _ (g : ℕ → Option LastTold) (f : Forest) (first : ℕ) (agree : (t : ℕ) (s : LastTold) → g t ≡ Some s → Agrees s) (at : AreOf g f) (head : first_tree f ≡ Some first) where
   place_is : (p : ℕ) (t : ℕ) (m : Tree) (o : Option (Node Look)) → host_place p (option_map (λ (n : Node Look). n.id) o) ≡ option_map (λ (n : Node Look). record { tree = p; node = n.id }) o
   place_is p t m None = refl
   place_is p t m (Some n) = refl
 
-  in_is : (p t : ℕ) (s : Option Summary) (m : Option Tree) → Stands s m → told_host_in s p t ≡ option_and_then (host_in t p) m
+  in_is : (p t : ℕ) (s : Option LastTold) (m : Option Tree) → IsTold s m → told_host_in s p t ≡ option_and_then (host_in t p) m
   in_is p t None None h = refl
-  in_is p t (Some s) (Some m) h = ap (host_place p) (h.index.firsts t) ∙ place_is p t m (find (λ (n : Node Look). is_nil n.children && names_child t n.known) (all_of m.trees))
+  in_is p t (Some s) (Some m) h = ap (host_place p) (h.firsts t) ∙ place_is p t m (find (λ (n : Node Look). is_nil n.children && names_child t n.known) (all_of m.trees))
   in_is p t None (Some m) h = absurd h
   in_is p t (Some s) None h = absurd h
 
@@ -43,7 +43,7 @@ module _ (g : ℕ → Option Summary) (f : Forest) (first : ℕ) (at : (t : ℕ)
   two_tests true c x = refl
   two_tests false c x = refl
 
-  of_is : (t : ℕ) (s : Option Summary) (m : Option Tree) → Stands s m
+  of_is : (t : ℕ) (s : Option LastTold) (m : Option Tree) → IsTold s m
       → told_host_of g first t s ≡ option_and_then (λ (n : Tree). cond (is_bare n.trees || is_first f t) None (option_and_then (λ p. option_and_then (host_in t p) (live_tree f p)) n.about.parent)) m
   of_is t None None h = refl
   of_is t (Some s) (Some m) h =
@@ -61,32 +61,24 @@ module _ (g : ℕ → Option Summary) (f : Forest) (first : ℕ) (at : (t : ℕ)
 
   -- the node at which t hangs names it
   record Hosts (p : Place) (t : ℕ) : Type 0 where
-    summary : Summary
-    there : g p.tree ≡ Some summary
-    names : get nat_eq summary.index.named p.node ≡ Some t
-
-  sound : (t : ℕ) (s : Summary) → g t ≡ Some s → (u z : ℕ) → get nat_eq s.index.hosts u ≡ Some z → get nat_eq s.index.named z ≡ Some u
-  sound t s e u z w = go (g t) (live_tree f t) (at t) e
-    where
-      go : (o : Option Summary) (m : Option Tree) → Stands o m → o ≡ Some s → get nat_eq s.index.named z ≡ Some u
-      go None m h i = absurd (let no : ◌≡◌ {A = Option Summary} None (Some s) = i in cc)
-      go (Some x) None h i = absurd h
-      go (Some x) (Some m) h i = let same : x ≡ s = same_Some x s i in subst (λ (y : Summary). get nat_eq y.index.hosts u ≡ Some z → get nat_eq y.index.named z ≡ Some u) same (h.sound.hosting u z) w
+    told : LastTold
+    there : g p.tree ≡ Some told
+    names : fin.get told.named p.node ≡ Some t
 
   hosts_in : (q t : ℕ) (p : Place) → told_host_in (g q) q t ≡ Some p → Hosts p t
   hosts_in q t p e = go (g q) refl e
     where
-      place : (s : Summary) → g q ≡ Some s → (o : Option ℕ) → get nat_eq s.index.hosts t ≡ o → host_place q o ≡ Some p → Hosts p t
+      place : (s : LastTold) → g q ≡ Some s → (o : Option ℕ) → fin.get s.hosts t ≡ o → host_place q o ≡ Some p → Hosts p t
       place s w None v i = absurd (let no : ◌≡◌ {A = Option Place} None (Some p) = i in cc)
       place s w (Some z) v i =
           let same : record { tree = q; node = z } ≡ p = same_Some _ p i in
           let tree : q ≡ p.tree = ap (λ (r : Place). r.tree) same in
           let node : z ≡ p.node = ap (λ (r : Place). r.node) same in
-          record { summary = s; there = ap g (sym tree) ∙ w; names = ap (get nat_eq s.index.named) (sym node) ∙ sound q s w t z v }
+          record { told = s; there = ap g (sym tree) ∙ w; names = ap (fin.get s.named) (sym node) ∙ agree q s w t z v }
 
-      go : (o : Option Summary) → g q ≡ o → told_host_in o q t ≡ Some p → Hosts p t
+      go : (o : Option LastTold) → g q ≡ o → told_host_in o q t ≡ Some p → Hosts p t
       go None w i = absurd (let no : ◌≡◌ {A = Option Place} None (Some p) = i in cc)
-      go (Some s) w i = place s w (get nat_eq s.index.hosts t) refl i
+      go (Some s) w i = place s w (fin.get s.hosts t) refl i
 
   hosts_under : (o : Option ℕ) (t : ℕ) (p : Place) → told_host_under g o t ≡ Some p → Hosts p t
   hosts_under None t p e = absurd (let no : ◌≡◌ {A = Option Place} None (Some p) = e in cc)
@@ -100,7 +92,7 @@ module _ (g : ℕ → Option Summary) (f : Forest) (first : ℕ) (at : (t : ℕ)
       tests true true o i = absurd (let no : ◌≡◌ {A = Option Place} None (Some p) = i in cc)
       tests false c o i = absurd (let no : ◌≡◌ {A = Option Place} None (Some p) = i in cc)
 
-      go : (o : Option Summary) → told_host_of g first t o ≡ Some p → Hosts p t
+      go : (o : Option LastTold) → told_host_of g first t o ≡ Some p → Hosts p t
       go None i = absurd (let no : ◌≡◌ {A = Option Place} None (Some p) = i in cc)
       go (Some s) i = tests s.rooted (first == t) s.parent i
 
@@ -131,7 +123,7 @@ module _ (g : ℕ → Option Summary) (f : Forest) (first : ℕ) (at : (t : ℕ)
   live_hosted : (t : ℕ) (p : Place) → told_host g first t ≡ Some p → (m : Tree) × (live_tree f t ≡ Some m)
   live_hosted t p e = go (g t) (live_tree f t) (at t) refl e
     where
-      go : (o : Option Summary) (m : Option Tree) → Stands o m → live_tree f t ≡ m → told_host_of g first t o ≡ Some p → (n : Tree) × (live_tree f t ≡ Some n)
+      go : (o : Option LastTold) (m : Option Tree) → IsTold o m → live_tree f t ≡ m → told_host_of g first t o ≡ Some p → (n : Tree) × (live_tree f t ≡ Some n)
       go None m h w i = absurd (let no : ◌≡◌ {A = Option Place} None (Some p) = i in cc)
       go (Some s) None h w i = absurd h
       go (Some s) (Some m) h w i = (m, w)
@@ -140,9 +132,9 @@ module _ (g : ℕ → Option Summary) (f : Forest) (first : ℕ) (at : (t : ℕ)
   hosted_is p = go (find (λ (s : Standing). is_place p (host_of f s.id)) f) refl
     where
       -- a tree that the summaries give is hosted there
-      none_hosted : find (λ (s : Standing). is_place p (host_of f s.id)) f ≡ None → (o : Option Summary) → told_hosted_in g first p o ≡ None
+      none_hosted : find (λ (s : Standing). is_place p (host_of f s.id)) f ≡ None → (o : Option LastTold) → told_hosted_in g first p o ≡ None
       none_hosted e None = refl
-      none_hosted e (Some s) = named (get nat_eq s.index.named p.node)
+      none_hosted e (Some s) = named (fin.get s.named p.node)
         where
           named : (o : Option ℕ) → where_hosted g first p o ≡ None
           named None = refl
@@ -198,27 +190,32 @@ live_gone t (s ∷ ss) =
     (λ q. ap (λ x. live_tree (x ∷ map (with_tree t None) ss) t) (ap (λ b. cond b (record { id = s.id; tree = None }) s) q) ∙ rw q refl)
     (λ q. let no : eqb (with_tree t None s).id t ≡ false = ap (λ i. eqb i t) (with_id t None s) ∙ q in rw no (live_gone t ss))
 
-module _ (g h : ℕ → Option Summary) (f : Forest) (t : ℕ) (at : (u : ℕ) → Stands (g u) (live_tree f u)) where
-  pub stands_retold : (m n : Tree) (s : Summary) → live_tree f t ≡ Some n → Says m s → ((u : ℕ) → h u ≡ cond (eqb t u) (Some s) (g u)) → (u : ℕ) → Stands (h u) (live_tree (retold t m f) u)
+module _ (g h : ℕ → Option LastTold) (f : Forest) (t : ℕ) (at : (u : ℕ) → IsTold (g u) (live_tree f u)) where
+  pub stands_retold : (m n : Tree) (s : LastTold) → live_tree f t ≡ Some n → IsToldOf m s → ((u : ℕ) → h u ≡ cond (eqb t u) (Some s) (g u)) → (u : ℕ) → IsTold (h u) (live_tree (retold t m f) u)
   stands_retold m n s l says e u =
       by_go (eqb t u)
       (λ q. let same : t ≡ u = eqb-true t u q in
-      subst (λ o. Stands o (live_tree (retold t m f) u)) (sym (e u ∙ ap (λ b. cond b (Some s) (g u)) q))
-      (subst (Stands (Some s)) (sym (ap (live_tree (retold t m f)) (sym same) ∙ live_itself t m f n l)) says))
-      (λ q. subst (λ o. Stands o (live_tree (retold t m f) u)) (sym (e u ∙ ap (λ b. cond b (Some s) (g u)) q)) (subst (Stands (g u)) (sym (live_other t (Some m) f u q)) (at u)))
+      subst (λ o. IsTold o (live_tree (retold t m f) u)) (sym (e u ∙ ap (λ b. cond b (Some s) (g u)) q))
+      (subst (IsTold (Some s)) (sym (ap (live_tree (retold t m f)) (sym same) ∙ live_itself t m f n l)) says))
+      (λ q. subst (λ o. IsTold o (live_tree (retold t m f) u)) (sym (e u ∙ ap (λ b. cond b (Some s) (g u)) q)) (subst (IsTold (g u)) (sym (live_other t (Some m) f u q)) (at u)))
 
-  pub stands_dropped : ((u : ℕ) → h u ≡ cond (eqb t u) None (g u)) → (u : ℕ) → Stands (h u) (live_tree (dropped t f) u)
+  pub stands_dropped : ((u : ℕ) → h u ≡ cond (eqb t u) None (g u)) → (u : ℕ) → IsTold (h u) (live_tree (dropped t f) u)
   stands_dropped e u =
       by_go (eqb t u)
       (λ q. let same : t ≡ u = eqb-true t u q in
-      subst (λ o. Stands o (live_tree (dropped t f) u)) (sym (e u ∙ ap (λ b. cond b None (g u)) q))
-      (subst (Stands None) (sym (ap (live_tree (dropped t f)) (sym same) ∙ live_gone t f)) tt))
-      (λ q. subst (λ o. Stands o (live_tree (dropped t f) u)) (sym (e u ∙ ap (λ b. cond b None (g u)) q)) (subst (Stands (g u)) (sym (live_other t None f u q)) (at u)))
+      subst (λ o. IsTold o (live_tree (dropped t f) u)) (sym (e u ∙ ap (λ b. cond b None (g u)) q))
+      (subst (IsTold None) (sym (ap (live_tree (dropped t f)) (sym same) ∙ live_gone t f)) tt))
+      (λ q. subst (λ o. IsTold o (live_tree (dropped t f) u)) (sym (e u ∙ ap (λ b. cond b None (g u)) q)) (subst (IsTold (g u)) (sym (live_other t None f u q)) (at u)))
 
-  -- a live tree's summary is of it
-  pub stands_says : (n : Tree) (s : Summary) → live_tree f t ≡ Some n → g t ≡ Some s → Says n s
-  stands_says n s l e = subst (Stands (Some s)) l (subst (λ o. Stands o (live_tree f t)) e (at t))
+  -- something was told of a live tree, and it is of it
+  pub record There (n : Tree) : Type 0 where
+    pub told : LastTold
+    pub is : g t ≡ Some told
+    pub of : IsToldOf n told
 
-  -- and a live tree has one
-  pub stands_none : (n : Tree) → live_tree f t ≡ Some n → g t ≡ None → ⊥
-  stands_none n l e = subst (Stands None) l (subst (λ o. Stands o (live_tree f t)) e (at t))
+  pub told_there : (n : Tree) → live_tree f t ≡ Some n → There n
+  told_there n l = go (g t) refl
+    where
+      go : (o : Option LastTold) → g t ≡ o → There n
+      go None e = absurd (subst (IsTold None) l (subst (λ o. IsTold o (live_tree f t)) e (at t)))
+      go (Some s) e = record { told = s; is = e; of = subst (IsTold (Some s)) l (subst (λ o. IsTold o (live_tree f t)) e (at t)) }

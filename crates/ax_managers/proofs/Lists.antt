@@ -7,8 +7,8 @@ use Rattle.ax_trees.specs.Lists.{contains, first_that}
 use Rattle.ax_trees.specs.Spots.{or_else}
 use Rattle.ax_trees.proofs.Trees.{by_go}
 use Rattle.ax_tree.specs.Touching.{with_id}
-use Rattle.ax_order.proofs.Filters.{IsAt, contains_push, contains_next, take_at}
 use Rattle.ax_managers.proofs.Namings.{first_push}
+use Rattle.ax_trees.proofs.Lists.{take_at, contains_push, contains_next, IsAt}
 
 -- an id more in a list of touched ids
 pub contains_with : (xs : List ℕ) (x z : ℕ) → contains (with_id xs x) z ≡ cond (eqb x z) true (contains xs z)
@@ -26,6 +26,13 @@ filter_passes q (x ∷ xs) z h =
     (λ s. let h' : contains (x ∷ filter q xs) z ≡ true = rw s at h in
     by_go (eqb x z) (λ t. ap q (sym (eqb-true x z t)) ∙ s) (λ t. filter_passes q xs z (grind (arith, h', t))))
     (λ s. filter_passes q xs z (rw s at h))
+
+pub filter_listed : (q : ℕ → Bool) (xs : List ℕ) (z : ℕ) → contains (filter q xs) z ≡ true → contains xs z ≡ true
+filter_listed q [] z h = h
+filter_listed q (x ∷ xs) z h =
+    by_go (eqb x z)
+    (λ t. grind (arith, t))
+    (λ t. let r : contains xs z ≡ true = by_go (q x) (λ s. filter_listed q xs z (let h' : contains (x ∷ filter q xs) z ≡ true = rw s at h in grind (arith, h', t))) (λ s. filter_listed q xs z (rw s at h)) in grind (arith, r))
 
 pub first_same : (p q : ℕ → Bool) (xs : List ℕ) → ((z : ℕ) → contains xs z ≡ true → p z ≡ q z) → first_that p xs ≡ first_that q xs
 first_same p q [] h = refl

@@ -1,9 +1,11 @@
 -- Nodes that name trees, by their ids.
 use Rattle.std.proofs.Common.{ℕ, ◌≡◌, Bool, true, false, cond, ◌&&◌, eqb, List, [], ◌∷◌, ◌++◌, Option, Some, None, refl, sym, ap, ap₂, ◌∙◌, arith}
 use Rattle.std.specs.Prelude.{option_map, option_and_then, filter}
+use Rattle.std.specs.Option.{option_or}
 use Rattle.std.specs.List.{find}
 use Rattle.std.specs.Ordering.{nat_cmp}
 use Rattle.std.specs.FinMap.Entries as entries
+use Rattle.std.proofs.lemmas.List.Folds.{find-append}
 use Rattle.std.proofs.lemmas.Option.{same_Some}
 use Rattle.std.proofs.lemmas.Bool.Decides.{eqb_tells}
 use Rattle.std.proofs.lemmas.Bool.{eqb-true, false≢true, false_from_ne_true}
@@ -63,11 +65,7 @@ first_append p (x ∷ xs) ys = by_go (p x) (λ q. rw q refl) (λ q. rw q (first_
 pub first_push : (p : ℕ → Bool) (xs : List ℕ) (x : ℕ) → first_that p (xs ++ x ∷ []) ≡ or_else (first_that p xs) (cond (p x) (Some x) None)
 first_push p xs x = first_append p xs (x ∷ [])
 
-find_append : {A : Type 0} (p : A → Bool) (xs ys : List A) → find p (xs ++ ys) ≡ or_else (find p xs) (find p ys)
-find_append p [] ys = refl
-find_append p (x ∷ xs) ys = by_go (p x) (λ q. rw q refl) (λ q. rw q (find_append p xs ys))
-
-map_or : {A B : Type 0} (g : A → B) (o p : Option A) → option_map g (or_else o p) ≡ or_else (option_map g o) (option_map g p)
+map_or : {A B : Type 0} (g : A → B) (o p : Option A) → option_map g (option_or o p) ≡ or_else (option_map g o) (option_map g p)
 map_or g None p = refl
 map_or g (Some a) p = refl
 
@@ -104,7 +102,7 @@ first_by_ids g t m (tree i x k r) d e h =
     let inner : first_that (λ z. t (m z)) (ids k) ≡ option_map (λ (n : Node Look). n.id) (find g (all_of k)) = first_by_ids g t m k d.3 e (λ z s. h z (grind (arith, s)) ∙ node_inner i x k r z d s) in
     let later : first_that (λ z. t (m z)) (ids r) ≡ option_map (λ (n : Node Look). n.id) (find g (all_of r)) = first_by_ids g t m r d.4 e (λ z s. h z (grind (arith, s)) ∙ node_later i x k r z d s) in
     let rest : first_that (λ z. t (m z)) (ids k ++ ids r) ≡ option_map (λ (n : Node Look). n.id) (find g (all_of k ++ all_of r)) =
-    first_append (λ z. t (m z)) (ids k) (ids r) ∙ (ap₂ or_else inner later ∙ (sym (map_or (λ (n : Node Look). n.id) (find g (all_of k)) (find g (all_of r))) ∙ ap (option_map (λ (n : Node Look). n.id)) (sym (find_append g (all_of k) (all_of r))))) in
+    first_append (λ z. t (m z)) (ids k) (ids r) ∙ (ap₂ or_else inner later ∙ (sym (map_or (λ (n : Node Look). n.id) (find g (all_of k)) (find g (all_of r))) ∙ ap (option_map (λ (n : Node Look). n.id)) (sym (find-append g (all_of k) (all_of r))))) in
     by_go (g own)
     (λ q. ap (λ b. cond b (Some i) (first_that (λ z. t (m z)) (ids k ++ ids r))) (at ∙ q) ∙ sym (ap (λ b. option_map (λ (n : Node Look). n.id) (cond b (Some own) (find g (all_of k ++ all_of r)))) q))
     (λ q. ap (λ b. cond b (Some i) (first_that (λ z. t (m z)) (ids k ++ ids r))) (at ∙ q) ∙ (rest ∙ sym (ap (λ b. option_map (λ (n : Node Look). n.id) (cond b (Some own) (find g (all_of k ++ all_of r)))) q)))

@@ -1,7 +1,7 @@
 pub mod Naming
+pub mod Watching
 pub mod Indexes
 pub mod Contests
-pub mod Summaries
 pub mod Telling
 pub mod Hanging
 pub mod Managed

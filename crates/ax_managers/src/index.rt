@@ -1,13 +1,19 @@
 //! The nodes of a tree that name trees, and how they follow the tree.
-ghost use Rattle.std.specs.Prelude.{◌≡◌, ◌≤◌, ◌<◌, ◌+◌, ℕ, length, OnOk, OnErr, nat_eq, if◌then◌else◌};
-ghost use Rattle.std.specs.HashMap.{get, spare};
+ghost use Rattle.std.specs.Prelude.{◌≡◌, ℕ, List, IfOk, OnOk, true, false, nat_eq, if◌then◌else◌};
+ghost use Rattle.std.specs.HashMap.{get};
+ghost use Rattle.std.specs.FinMap as fin;
 ghost use Rattle.ax_trees.specs.Lists.{contains};
 ghost use Rattle.ax_tree.specs.Tree.{Tree, empty};
+ghost use Rattle.ax_order.specs.Marks.{is_marked};
 ghost use Rattle.ax_order.specs.Touched.{NamesChanges};
-ghost use Rattle.ax_managers.specs.Indexes.{IsOf, IsSound, IsSame, Settles};
+ghost use Rattle.ax_managers.specs.Naming.{named_at};
+ghost use Rattle.ax_managers.specs.Indexes.{IsOf, IsSoundIndex, Settles};
+ghost use Rattle.ax_managers.specs.Watching.{IsCalm};
 
-use crate::contest::{Contest, hold_contest, renamed_among};
+use crate::contest::{Contest, hold_contest, host_in, name_in};
 use ax_base::{Ids, NoMemory, NodeId, TreeId};
+use ax_by_id::{ByNode, ByTree};
+use ax_order::Marks;
 use ax_tree::TreeView;
 use std::alloc::Global;
 use std::collections::HashMap;
@@ -16,119 +22,141 @@ use std::collections::HashMap;
 #[derive(Drop)]
 pub struct Index {
     /// Each of them, with the tree that it names.
-    pub named: HashMap<NodeId, TreeId>,
+    pub named: ByNode<TreeId>,
     /// Each named tree, with its host: the first node in pre-order that names it.
-    pub hosts: HashMap<TreeId, NodeId>,
+    pub hosts: ByTree<NodeId>,
     /// The nodes that name a tree beside its host.
     pub rivals: Ids,
+    /// The rivals, the hosts that have some, and all ids above these.
+    pub watched: Marks,
 }
 
 impl Index {
     /// The index of a tree without nodes.
     pub fn new(alloc: Global) -> Index
         ensures of { (t : ℕ) → IsOf (empty t) result }
-        ensures sound { IsSound result }
+        ensures sound { IsSoundIndex result }
     {
         Index {
-            named: HashMap::new(alloc),
-            hosts: HashMap::new(alloc),
+            named: ByNode::new(alloc),
+            hosts: ByTree::new(alloc),
             rivals: Ids::new(alloc),
+            watched: HashMap::new(alloc),
         }
     }
 }
 
-/// Makes it the index of this tree, which differs at touched ids alone from the one that it is of. What can want memory comes
-/// first, so that want of memory changes nothing.
-pub fn reindex<T: TreeView>(
-    alloc: Global,
-    index: &mut Index,
-    t: &T,
-    touched: &[NodeId],
-) -> Result<(), NoMemory>
-    ensures of { OnOk result ((n : Tree) → IsOf n index.old → IsSound index.old → NamesChanges n (T.tree t.now) touched.now → IsOf (T.tree t.now) index.new) }
-    ensures sound { IsSound index.old → IsSound index.new }
-    ensures err { OnErr result (IsSame index.old index.new) }
+/// Whether no watched id is touched, and the tree's root is watched where any id is. Then all nodes that name the same trees
+/// stand as they stood to each other.
+pub fn rests<T: TreeView>(watched: &Marks, t: &T, touched: &[NodeId]) -> bool
+    ensures { result ≡ true → IsCalm (T.tree t.now) (is_marked (get nat_eq watched.now)) touched.now }
 {
-    let _ = t.root();
-    let renamed = renamed_among(alloc, &index.named, t, touched)?;
-    if renamed.is_empty() && index.rivals.is_empty() {
-        return Ok(());
+    if watched.is_empty() {
+        return true;
     }
-    let contest = hold_contest(alloc, index, t, renamed.as_slice())?;
-    settle(index, renamed.as_slice(), contest)
+    let Some(root) = t.root() else {
+        return false;
+    };
+    if watched.contains_key(&root) {
+        return none_is_watched(watched, touched);
+    }
+    false
 }
 
-/// Takes over what a contest gave.
-fn settle(index: &mut Index, renamed: &[NodeId], contest: Contest) -> Result<(), NoMemory>
-    ensures ok { OnOk result (Settles index.old index.new renamed.now contest) }
-    ensures err { OnErr result (IsSame index.old index.new) }
+/// Whether none of the ids is watched.
+fn none_is_watched(watched: &Marks, ids: &[NodeId]) -> bool
+    ensures { result ≡ true → (z : ℕ) → contains ids.now z ≡ true → is_marked (get nat_eq watched.now) z ≡ false }
 {
-    if index.named.reserve(renamed.len()).is_err() {
-        return Err(NoMemory);
+    for id in ids {
+        if watched.contains_key(id) {
+            return false;
+        }
     }
-    if index.hosts.reserve(contest.trees.len()).is_err() {
-        return Err(NoMemory);
-    }
-    let Contest {
-        trees,
-        names,
+    true
+}
+
+/// The index of this tree, which differs at touched ids alone from the one that `index` is of. Of these the renamed ones name
+/// another tree now. The rivals and what is watched are found anew; the rest of the index is shared.
+pub fn reindexed<T: TreeView>(
+    alloc: Global,
+    index: &Index,
+    t: &T,
+    renamed: &[NodeId],
+) -> Result<Index, NoMemory>
+    ensures of { IfOk result (λ next. (n : Tree) (touched : List ℕ) → IsOf n index.now → IsSoundIndex index.now → NamesChanges n (T.tree t.now) touched → ((z : ℕ) → contains touched z ≡ true → contains renamed.now z ≡ false → fin.get index.now.named z ≡ named_at (T.tree t.now) z) → IsOf (T.tree t.now) next) }
+    ensures sound { IfOk result (λ next. IsSoundIndex index.now → IsSoundIndex next) }
+{
+    let _ = t.root();
+    let contest = hold_contest(alloc, index, t, renamed)?;
+    settled(index, renamed, contest)
+}
+
+/// The index with what a contest gave.
+fn settled(index: &Index, renamed: &[NodeId], contest: Contest) -> Result<Index, NoMemory>
+    ensures { IfOk result (λ next. Settles index.now next renamed.now contest) }
+{
+    let mut named = index.named.share()?;
+    rename(&mut named, &contest.names, renamed)?;
+    let mut hosts = index.hosts.share()?;
+    rehost(&mut hosts, &contest.hosts, contest.trees.as_slice())?;
+    Ok(Index {
+        named,
         hosts,
-        rivals,
-    } = contest;
-    rename(&mut index.named, &names, renamed);
-    rehost(&mut index.hosts, &hosts, trees.as_slice());
-    index.rivals = rivals;
-    Ok(())
+        rivals: contest.rivals,
+        watched: contest.watched,
+    })
 }
 
 /// Puts in what the nodes name now.
-fn rename(named: &mut HashMap<NodeId, TreeId>, names: &HashMap<NodeId, TreeId>, ids: &[NodeId])
-    requires { length ids.now ≤ spare named.old }
-    ensures { (z : ℕ) → get nat_eq named.new z ≡ (if contains ids.now z then get nat_eq names.now z else get nat_eq named.old z) }
+fn rename(
+    named: &mut ByNode<TreeId>,
+    names: &HashMap<NodeId, TreeId>,
+    ids: &[NodeId],
+) -> Result<(), NoMemory>
+    ensures { OnOk result ((z : ℕ) → fin.get named.new z ≡ (if contains ids.now z then get nat_eq names.now z else fin.get named.old z)) }
 {
     for id in ids {
-        rename_one(named, names, *id);
+        rename_one(named, names, *id)?;
     }
+    Ok(())
 }
 
-fn rename_one(named: &mut HashMap<NodeId, TreeId>, names: &HashMap<NodeId, TreeId>, id: NodeId)
-    requires { 0 < spare named.old }
-    ensures at { (z : ℕ) → get nat_eq named.new z ≡ (if nat_eq id z then get nat_eq names.now z else get nat_eq named.old z) }
-    ensures room { spare named.old ≤ spare named.new + 1 }
+fn rename_one(
+    named: &mut ByNode<TreeId>,
+    names: &HashMap<NodeId, TreeId>,
+    id: NodeId,
+) -> Result<(), NoMemory>
+    ensures { OnOk result ((z : ℕ) → fin.get named.new z ≡ (if nat_eq id z then get nat_eq names.now z else fin.get named.old z)) }
 {
-    match names.get(&id) {
-        Some(tree) => match named.insert(id, *tree) {
-            Ok(_) => {}
-            Err(_) => unreachable!(),
-        },
-        None => {
-            let _ = named.remove(&id);
-        }
+    match name_in(names, id) {
+        Some(tree) => named.put(id, tree),
+        None => named.take(id),
     }
 }
 
 /// Puts in the hosts that the trees have now.
-fn rehost(hosts: &mut HashMap<TreeId, NodeId>, now: &HashMap<TreeId, NodeId>, trees: &[TreeId])
-    requires { length trees.now ≤ spare hosts.old }
-    ensures { (u : ℕ) → get nat_eq hosts.new u ≡ (if contains trees.now u then get nat_eq now.now u else get nat_eq hosts.old u) }
+fn rehost(
+    hosts: &mut ByTree<NodeId>,
+    now: &HashMap<TreeId, NodeId>,
+    trees: &[TreeId],
+) -> Result<(), NoMemory>
+    ensures { OnOk result ((u : ℕ) → fin.get hosts.new u ≡ (if contains trees.now u then get nat_eq now.now u else fin.get hosts.old u)) }
 {
     for tree in trees {
-        rehost_one(hosts, now, *tree);
+        rehost_one(hosts, now, *tree)?;
     }
+    Ok(())
 }
 
-fn rehost_one(hosts: &mut HashMap<TreeId, NodeId>, now: &HashMap<TreeId, NodeId>, tree: TreeId)
-    requires { 0 < spare hosts.old }
-    ensures at { (u : ℕ) → get nat_eq hosts.new u ≡ (if nat_eq tree u then get nat_eq now.now u else get nat_eq hosts.old u) }
-    ensures room { spare hosts.old ≤ spare hosts.new + 1 }
+fn rehost_one(
+    hosts: &mut ByTree<NodeId>,
+    now: &HashMap<TreeId, NodeId>,
+    tree: TreeId,
+) -> Result<(), NoMemory>
+    ensures { OnOk result ((u : ℕ) → fin.get hosts.new u ≡ (if nat_eq tree u then get nat_eq now.now u else fin.get hosts.old u)) }
 {
-    match now.get(&tree) {
-        Some(node) => match hosts.insert(tree, *node) {
-            Ok(_) => {}
-            Err(_) => unreachable!(),
-        },
-        None => {
-            let _ = hosts.remove(&tree);
-        }
+    match host_in(now, tree) {
+        Some(node) => hosts.put(tree, node),
+        None => hosts.take(tree),
     }
 }

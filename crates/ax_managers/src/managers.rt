@@ -1,40 +1,43 @@
 //! The live trees, and where each of them hangs.
-ghost use Rattle.std.specs.Prelude.{◌≡◌, ◌≤◌, ℕ, length, IfOk, OnOk, OnErr, Some, None, is_some, nat_eq, option_map, if◌then◌else◌};
-ghost use Rattle.std.specs.HashMap.{get};
+ghost use Rattle.std.specs.Prelude.{◌≡◌, ◌≤◌, ℕ, true, false, length, IfOk, OnOk, OnErr, Some, None, is_some, nat_eq, if◌then◌else◌};
+ghost use Rattle.std.specs.Option.{option_copied};
+ghost use Rattle.std.specs.FinMap as fin;
 ghost use Rattle.ax_managers.specs.Hanging.{told_host, told_host_in, host_place, told_hosted};
 ghost use Rattle.ax_tree.specs.Tree.{Tree};
 ghost use Rattle.ax_tree.specs.Forest.{Forest, live_tree, is_place, host_of, hosted_by};
 ghost use Rattle.ax_order.specs.Touched.{NamesChanges};
-ghost use Rattle.ax_managers.specs.Telling.{AreOf, retold, dropped, empty_forest};
-ghost use Rattle.ax_managers.specs.Managed.{Tells};
-ghost use Rattle.ax_managers.specs.Shown.{AreSound, told_of};
+ghost use Rattle.ax_managers.specs.Telling.{AreOf, Retells, retold, dropped, empty_forest};
+ghost use Rattle.ax_managers.specs.Managed.{LastTold, IsToldOf, Tells};
+ghost use Rattle.ax_managers.specs.Shown.{AllAgree, told_at};
 
-use crate::summary::{Summary, empty_summary, retell};
+use crate::gone::Gone;
+use crate::summary::Summary;
 use ax_base::{NoMemory, NodeId, Place, TreeId};
+use ax_by_id::ByTree;
 use ax_tree::TreeView;
 use std::alloc::Global;
-use std::collections::HashMap;
 use std::marker::Model;
 
 /// The live trees, and what the hanging rule asks of each as it was last told.
 #[derive(Drop)]
 pub struct Managers {
     first: TreeId,
-    trees: HashMap<TreeId, Summary>,
+    trees: ByTree<Summary>,
+    gone: Gone,
     alloc: Global,
 }
 
 impl Model for Managers {
     ghost use Rattle.ax_managers.specs.Managed.{Managed, coded_managed};
-    ghost use Rattle.ax_managers.specs.Shown.{shown, AreSound};
+    ghost use Rattle.ax_managers.specs.Shown.{shown, AllAgree};
 
     ghost Value = { Managed };
 
     ghost coded = { coded_managed };
 
-    ghost view = { λ m. shown m.first m.trees };
+    ghost view = { λ m. shown m.first m.trees m.gone };
 
-    ghost invariant = { λ m. AreSound m.trees };
+    ghost invariant = { λ m. AllAgree m.trees };
 }
 
 impl Managers {
@@ -48,7 +51,21 @@ impl Managers {
         Ok(Managers {
             first,
             trees,
+            gone: Gone::none(),
             alloc,
+        })
+    }
+
+    /// The same managers, in constant time. What is told to one of the two changes nothing of the other.
+    pub fn share(&self) -> Result<Managers, NoMemory>
+        ensures { IfOk result (λ m. m ≡ self.now) }
+    {
+        let trees = self.trees.share()?;
+        Ok(Managers {
+            first: self.first,
+            trees,
+            gone: self.gone,
+            alloc: self.alloc,
         })
     }
 
@@ -56,21 +73,21 @@ impl Managers {
     pub fn live(&self, t: TreeId) -> bool
         ensures { (f : Forest) → Tells self.now f → result ≡ is_some (live_tree f t) }
     {
-        is_live(&self.trees, t)
+        is_live(&self.trees, &self.gone, t)
     }
 
     /// The node at which the tree hangs, by the hanging rule over the trees last told.
     pub fn host_of(&self, t: TreeId) -> Option<Place>
         ensures { (f : Forest) → Tells self.now f → result ≡ host_of f t }
     {
-        host_of(&self.trees, self.first, t)
+        host_of(&self.trees, &self.gone, self.first, t)
     }
 
     /// The tree that hangs at the node, by the hanging rule over the trees last told.
     pub fn hosted_by(&self, p: Place) -> Option<TreeId>
         ensures { (f : Forest) → Tells self.now f → result ≡ hosted_by f p }
     {
-        hosted_by(&self.trees, self.first, &p)
+        hosted_by(&self.trees, &self.gone, self.first, &p)
     }
 
     /// Tells that the live tree `t` is now `tree`, which differs from what was last told at touched ids alone. After want of
@@ -91,117 +108,121 @@ impl Managers {
     pub fn drop_tree(&mut self, t: TreeId)
         ensures { (f : Forest) → Tells self.old f → Tells self.new (dropped t f) }
     {
-        drop_summary(&mut self.trees, t);
+        self.gone.add(t);
+        free(&mut self.trees, t);
     }
 }
 
-fn empty_summaries(alloc: Global, trees: &[TreeId]) -> Result<HashMap<TreeId, Summary>, NoMemory>
-    ensures are { IfOk result (λ m. AreOf m (empty_forest trees.now)) }
-    ensures sound { IfOk result AreSound }
+fn empty_summaries(alloc: Global, trees: &[TreeId]) -> Result<ByTree<Summary>, NoMemory>
+    ensures are { IfOk result (λ m. AreOf (fin.get m) (empty_forest trees.now)) }
+    ensures agree { IfOk result AllAgree }
 {
-    let mut summaries = HashMap::new(alloc);
+    let mut summaries = ByTree::new(alloc);
     for tree in trees {
-        match summaries.insert(*tree, empty_summary(alloc)) {
-            Ok(_) => {}
-            Err(_) => return Err(NoMemory),
-        }
+        summaries.put(*tree, Summary::empty(alloc))?;
     }
     Ok(summaries)
 }
 
-fn is_live(trees: &HashMap<TreeId, Summary>, t: TreeId) -> bool
-    ensures { result ≡ is_some (get nat_eq trees.now t) }
+/// Frees the summary of a tree that is gone. Where memory is wanted for that, it stays, and nothing asks for it.
+fn free(trees: &mut ByTree<Summary>, t: TreeId)
+    ensures others { (u : ℕ) → nat_eq t u ≡ false → fin.get trees.new u ≡ fin.get trees.old u }
+    ensures agree { AllAgree trees.old → AllAgree trees.new }
 {
-    match trees.get(&t) {
+    let _ = trees.take(t);
+}
+
+/// Tells that a tree is now this one. A tree of which nothing was told, or which is gone, isn't told.
+fn retouch<T: TreeView>(
+    alloc: Global,
+    trees: &mut ByTree<Summary>,
+    t: TreeId,
+    tree: &T,
+    touched: &[NodeId],
+) -> Result<(), NoMemory>
+    ensures ok { OnOk result ((s : LastTold) (n : Tree) → fin.get trees.old t ≡ Some s → IsToldOf n s → NamesChanges n (T.tree tree.now) touched.now → Retells (fin.get trees.old) (fin.get trees.new) t (T.tree tree.now)) }
+    ensures agree { AllAgree trees.old → AllAgree trees.new }
+    ensures err { OnErr result (trees.new ≡ trees.old) }
+{
+    let Some(summary) = trees.get(t) else {
+        return Ok(());
+    };
+    match summary.retold(alloc, tree, touched)? {
+        Some(summary) => trees.put(t, summary),
+        None => Ok(()),
+    }
+}
+
+fn is_live(trees: &ByTree<Summary>, gone: &Gone, t: TreeId) -> bool
+    ensures { result ≡ is_some (told_at trees.now gone.now t) }
+{
+    match told(trees, gone, t) {
         Some(_) => true,
         None => false,
     }
 }
 
-fn drop_summary(trees: &mut HashMap<TreeId, Summary>, t: TreeId)
-    ensures { (u : ℕ) → get nat_eq trees.new u ≡ (if nat_eq t u then None else get nat_eq trees.old u) }
+/// What was told of a live tree.
+fn told<'a>(trees: &'a ByTree<Summary>, gone: &Gone, t: TreeId) -> Option<&'a Summary>
+    ensures { option_copied result ≡ told_at trees.now gone.now t }
 {
-    let _ = trees.remove(&t);
-}
-
-fn retouch<T: TreeView>(
-    alloc: Global,
-    trees: &mut HashMap<TreeId, Summary>,
-    t: TreeId,
-    tree: &T,
-    touched: &[NodeId],
-) -> Result<(), NoMemory>
-    ensures ok { OnOk result ((f : Forest) (m : Tree) → AreOf trees.old f → live_tree f t ≡ Some m → NamesChanges m (T.tree tree.now) touched.now → AreOf trees.new (retold t (T.tree tree.now) f)) }
-    ensures sound { AreSound trees.old → AreSound trees.new }
-    ensures err { OnErr result ((u : ℕ) → option_map told_of (get nat_eq trees.new u) ≡ option_map told_of (get nat_eq trees.old u)) }
-{
-    match trees.get_mut(&t) {
-        Some(summary) => retell(alloc, summary, tree, touched),
-        None => Ok(()),
+    if gone.has(t) {
+        return None;
     }
+    trees.get(t)
 }
 
 /// The node at which a tree hangs, as the summaries have it.
-fn host_of(trees: &HashMap<TreeId, Summary>, first: TreeId, t: TreeId) -> Option<Place>
-    ensures { result ≡ told_host (get nat_eq trees.now) first t }
+fn host_of(trees: &ByTree<Summary>, gone: &Gone, first: TreeId, t: TreeId) -> Option<Place>
+    ensures { result ≡ told_host (told_at trees.now gone.now) first t }
 {
-    let Some(told) = trees.get(&t) else {
+    let Some(summary) = told(trees, gone, t) else {
         return None;
     };
-    if !told.rooted {
+    if !summary.rooted() {
         return None;
     }
     if first == t {
         return None;
     }
-    match told.parent {
-        Some(parent) => host_in(trees, parent, t),
+    match summary.parent() {
+        Some(parent) => host_in(trees, gone, parent, t),
         None => None,
     }
 }
 
-fn host_in(trees: &HashMap<TreeId, Summary>, tree: TreeId, t: TreeId) -> Option<Place>
-    ensures { result ≡ told_host_in (get nat_eq trees.now tree) tree t }
+fn host_in(trees: &ByTree<Summary>, gone: &Gone, tree: TreeId, t: TreeId) -> Option<Place>
+    ensures { result ≡ told_host_in (told_at trees.now gone.now tree) tree t }
 {
-    match trees.get(&tree) {
-        Some(told) => first_host(told, tree, t),
+    match told(trees, gone, tree) {
+        Some(summary) => place_in(tree, summary.host(t)),
         None => None,
     }
 }
 
-fn first_host(told: &Summary, tree: TreeId, t: TreeId) -> Option<Place>
-    ensures { result ≡ host_place tree (get nat_eq told.now.index.hosts t) }
+fn place_in(tree: TreeId, node: Option<NodeId>) -> Option<Place>
+    ensures { result ≡ host_place tree node }
 {
-    match told.index.hosts.get(&t) {
-        Some(node) => Some(Place { tree, node: *node }),
+    match node {
+        Some(node) => Some(Place { tree, node }),
         None => None,
     }
 }
 
 /// The tree that hangs at a node, as the summaries have it.
-fn hosted_by(trees: &HashMap<TreeId, Summary>, first: TreeId, p: &Place) -> Option<TreeId>
-    ensures { result ≡ told_hosted (get nat_eq trees.now) first p.now }
+fn hosted_by(trees: &ByTree<Summary>, gone: &Gone, first: TreeId, p: &Place) -> Option<TreeId>
+    ensures { result ≡ told_hosted (told_at trees.now gone.now) first p.now }
 {
-    let Some(told) = trees.get(&p.tree) else {
+    let Some(summary) = told(trees, gone, p.tree) else {
         return None;
     };
-    let Some(t) = named(told, p.node) else {
+    let Some(t) = summary.named(p.node) else {
         return None;
     };
-    if is_place(p, host_of(trees, first, t)) {
+    if is_place(p, host_of(trees, gone, first, t)) {
         return Some(t);
     }
     None
-}
-
-/// The tree that the node names.
-fn named(told: &Summary, node: NodeId) -> Option<TreeId>
-    ensures { result ≡ get nat_eq told.now.index.named node }
-{
-    match told.index.named.get(&node) {
-        Some(tree) => Some(*tree),
-        None => None,
-    }
 }
 
 fn is_place(p: &Place, other: Option<Place>) -> bool

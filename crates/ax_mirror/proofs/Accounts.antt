@@ -20,12 +20,13 @@ use Rattle.ax_mirror.specs.Placed.{Nodes}
 use Rattle.ax_mirror.specs.Finishes.{is_pending}
 use Rattle.ax_mirror.specs.Begins.{TouchesAll, root_is, anew_of}
 use Rattle.ax_mirror.specs.Steps.{IsSettled, Updates, updated}
-use Rattle.ax_mirror.specs.Kept.{Holds}
+use Rattle.ax_mirror.specs.Kept.{HoldsTree}
 use Rattle.ax_mirror.specs.Accounts.{Accounts, no_id, is_id, names, node_names, list_names, start_names, lists_id, lists_child, is_listed, is_named, MayBeTouched, TouchesOnly}
 use Rattle.ax_mirror.proofs.Looks.{at_other}
-use Rattle.ax_mirror.proofs.Lists.{IsAt, contains_with}
+use Rattle.ax_mirror.proofs.Lists.{contains_with}
 use Rattle.ax_mirror.proofs.Updates.{all_settled, refused_clear}
 use Rattle.ax_mirror.proofs.Shows.{there_same}
+use Rattle.ax_trees.proofs.Lists.{IsAt}
 
 module _ (p q : ℕ → Bool) where
   pub acc_start : (d : Draft) → Accounts p q d d
@@ -238,7 +239,7 @@ clear_there u f g h z r = go (missing f u.clear) refl
     go None m = clear_known f u.clear z m r
     go (Some y) m = absurd (let e : updated u f ≡ Err (BadClear y) = refused_clear u f y m in cc)
 
-module _ (u : TreeUpdate) (d e : Draft) (a : Accounts (names u) (lists_id u.nodes) d e) (f g : Trees Look) (h : Holds d.nodes d.root f) (k : Holds e.nodes e.root g) (clear : (z : ℕ) → root_is u.clear z ≡ true → has f z ≡ true) where
+module _ (u : TreeUpdate) (d e : Draft) (a : Accounts (names u) (lists_id u.nodes) d e) (f g : Trees Look) (h : HoldsTree d.nodes d.root f) (k : HoldsTree e.nodes e.root g) (clear : (z : ℕ) → root_is u.clear z ≡ true → has f z ≡ true) where
   was : (z : ℕ) → is_some (fin.get d.nodes z) ≡ has f z
   was z = there_same d.nodes d.root f h z
 
@@ -298,7 +299,7 @@ or_false true h = refl
 or_false false h = h
 
 -- the rest of a bundle, one update later
-pub only_next : (us : List TreeUpdate) (i : ℕ) (u : TreeUpdate) (d e g : Draft) (f now next : Trees Look) → i < length us → u ≡ get_or us i u → TouchesOnly (u ∷ []) e g → Holds e.nodes e.root now → Holds g.nodes g.root next
+pub only_next : (us : List TreeUpdate) (i : ℕ) (u : TreeUpdate) (d e g : Draft) (f now next : Trees Look) → i < length us → u ≡ get_or us i u → TouchesOnly (u ∷ []) e g → HoldsTree e.nodes e.root now → HoldsTree g.nodes g.root next
     → ((z : ℕ) → contains e.touched z ≡ true → (contains d.touched z ≡ true) ⊎ MayBeTouched us f now z) → ((z : ℕ) → has now z ≡ true → (has f z ≡ true) ⊎ (is_listed us z ≡ true))
     → (z : ℕ) → contains g.touched z ≡ true → (contains d.touched z ≡ true) ⊎ MayBeTouched us f next z
 only_next us i u d e g f now next l q t hn hx only come z c =
@@ -324,7 +325,7 @@ only_next us i u d e g f now next l q t hn hx only come z c =
         (λ n. ⊎_elim (λ (x : has f z ≡ true). inr (k.0, or_left (has f z) (is_named us z) x)) (λ x. inl x) (come z n))
         (λ n. inr (k.0, or_right (has f z) (is_named us z) (named_of us i u z l q (or_false (root_is u.root z || lists_child u.nodes z) (later (has now z) (is_named (u ∷ []) z) n k.1)))))
 
-pub come_next : (us : List TreeUpdate) (i : ℕ) (u : TreeUpdate) (e g : Draft) (f now next : Trees Look) → i < length us → u ≡ get_or us i u → TouchesOnly (u ∷ []) e g → Holds e.nodes e.root now → Holds g.nodes g.root next
+pub come_next : (us : List TreeUpdate) (i : ℕ) (u : TreeUpdate) (e g : Draft) (f now next : Trees Look) → i < length us → u ≡ get_or us i u → TouchesOnly (u ∷ []) e g → HoldsTree e.nodes e.root now → HoldsTree g.nodes g.root next
     → ((z : ℕ) → has now z ≡ true → (has f z ≡ true) ⊎ (is_listed us z ≡ true)) → (z : ℕ) → has next z ≡ true → (has f z ≡ true) ⊎ (is_listed us z ≡ true)
 come_next us i u e g f now next l q t hn hx come z h =
     ⊎_elim

@@ -21,8 +21,8 @@ use Rattle.ax_mirror.specs.declared.entries.Entry.{Entry}
 use Rattle.ax_mirror.specs.declared.draft.Draft.{Draft}
 use Rattle.ax_tree.specs.Touching.{with_id}
 use Rattle.ax_mirror.specs.Placed.{Nodes, look, place, told_node, told_place, pending_entry}
-use Rattle.ax_mirror.specs.Kept.{Keeps}
-use Rattle.ax_mirror.specs.Steps.{Tells, Tracked, Makes, Unmade, TakesOut, PutsPending}
+use Rattle.ax_mirror.specs.Kept.{KeepsDraft}
+use Rattle.ax_mirror.specs.Steps.{TellsNodes, Tracked, Makes, Unmade, TakesOut, PutsPending}
 use Rattle.ax_mirror.specs.Begins.{root_is, anew_of, TouchesAll}
 use Rattle.ax_mirror.proofs.Looks.{get_insert}
 use Rattle.ax_mirror.proofs.Lists.{contains_with, length_new, length_old}
@@ -36,7 +36,7 @@ Drafted = Trees (Option Look)
 
 -- ---- a cleared id
 
-module _ (m n e : Nodes) (z : ℕ) (x : Entry) (root : Option ℕ) (w : Drafted) (kp : Keeps m root w) (there : Some x ≡ map.get m z) where
+module _ (m n e : Nodes) (z : ℕ) (x : Entry) (root : Option ℕ) (w : Drafted) (kp : KeepsDraft m root w) (there : Some x ≡ map.get m z) where
   has_z : has w z ≡ true
   has_z = is_there m z x w there kp.stands
 
@@ -49,7 +49,7 @@ module _ (m n e : Nodes) (z : ℕ) (x : Entry) (root : Option ℕ) (w : Drafted)
       ap (option_map (λ (y : Node (Option Look)). y.children)) (sym there_at ∙ kp.stands.at z) ∙ node_children w z has_z in
       cc
 
-  pub tells_below : Tells m (below w z)
+  pub tells_below : TellsNodes m (below w z)
   tells_below = record { apart = distinct_below w z kp.distinct; told = λ y h. kp.stands.at y ∙ sym (node_below w z y kp.distinct h) }
 
   module _ (out : (y : ℕ) → map.get n y ≡ cond (has (below w z) y) None (map.get m y)) (put : e ≡ map.insert n z (pending_entry x.above x.level z)) where
@@ -85,7 +85,7 @@ module _ (m n e : Nodes) (z : ℕ) (x : Entry) (root : Option ℕ) (w : Drafted)
         (λ q. let b : has (below w z) y ≡ false = false_from_ne_true (has (below w z) y) (λ h. false≢true (sym (outside w z None y kp.distinct has_z h) ∙ o)) in
         ap (option_map told_place) (get_other y q b))
 
-    pub keeps_cleared : Keeps e root (with_node w z None bare)
+    pub keeps_cleared : KeepsDraft e root (with_node w z None bare)
     keeps_cleared = record {
       distinct = distinct_with_node w z None bare kp.distinct has_z tt (λ y h. absurd (false≢true h));
       tops = roots-with_node w z None bare ∙ kp.tops;
@@ -93,8 +93,8 @@ module _ (m n e : Nodes) (z : ℕ) (x : Entry) (root : Option ℕ) (w : Drafted)
       hung = hung_with (place m) (place e) None 1 w z x.above x.level None bare kp.hung has_z (ap (option_map told_place) (sym there)) place_outside tt;
     }
 
-pub keeps_absent : (m : Nodes) (z : ℕ) (root : Option ℕ) (w : Drafted) → None ≡ map.get m z → Keeps m root w → Keeps m root (with_node w z None bare)
-keeps_absent m z root w h k = subst (λ v. Keeps m root v) (sym (with_node_other w z None bare (not_there m z w h k.stands))) k
+pub keeps_absent : (m : Nodes) (z : ℕ) (root : Option ℕ) (w : Drafted) → None ≡ map.get m z → KeepsDraft m root w → KeepsDraft m root (with_node w z None bare)
+keeps_absent m z root w h k = subst (λ v. KeepsDraft m root v) (sym (with_node_other w z None bare (not_there m z w h k.stands))) k
 
 -- entries out, and one pending
 pub made_put : (d n e : Draft) (stack : List ℕ) (z : ℕ) (above : Option ℕ) (level : ℕ) → TakesOut d n stack → PutsPending n e z above level → Makes d e
@@ -113,7 +113,7 @@ lone r = tree r None bare bare
 lone_get : (e : Nodes) (r : ℕ) → e ≡ map.insert map.empty r (pending_entry None 1 r) → (y : ℕ) → map.get e y ≡ cond (eqb r y) (Some (pending_entry None 1 r)) None
 lone_get e r h y = ap (λ m. map.get m y) h ∙ get_insert map.empty r (pending_entry None 1 r) y ∙ ap (cond (eqb r y) (Some (pending_entry None 1 r))) (map.get-empty nat_cmp y)
 
-pub keeps_lone : (e : Nodes) (r : ℕ) → e ≡ map.insert map.empty r (pending_entry None 1 r) → Keeps e (Some r) (lone r)
+pub keeps_lone : (e : Nodes) (r : ℕ) → e ≡ map.insert map.empty r (pending_entry None 1 r) → KeepsDraft e (Some r) (lone r)
 keeps_lone e r h = record {
   distinct = (refl, refl, record { apart = λ z t. refl }, tt, tt);
   tops = refl;
@@ -141,7 +141,7 @@ absent_entry None h = refl
 absent_entry (Some x) h = absurd (cc)
 
 -- all old ids are touched, and so is the root
-pub track_lone : (d t e f : Draft) (r : ℕ) (w : Drafted) → TouchesAll d t → e.touched ≡ t.touched → e.nodes ≡ map.empty → Tracked e f → Keeps d.nodes d.root w → Tracked d f
+pub track_lone : (d t e f : Draft) (r : ℕ) (w : Drafted) → TouchesAll d t → e.touched ≡ t.touched → e.nodes ≡ map.empty → Tracked e f → KeepsDraft d.nodes d.root w → Tracked d f
 track_lone d t e f r w all same none tr k = record {
   same = λ z h.
       let old : contains e.touched z ≡ false = false_from_ne_true (contains e.touched z) (λ g. false≢true (sym h ∙ tr.grows z g)) in
@@ -155,11 +155,11 @@ track_lone d t e f r w all same none tr k = record {
 
 pub record Unseen (w : Drafted) (m : Nodes) (t stack : List ℕ) : Type 0 where
   pub left : Drafted
-  pub tells : Tells m left
+  pub tells : TellsNodes m left
   pub tops : roots left ≡ reverse stack
   pub seen : (z : ℕ) → has w z ≡ true → (has left z || contains t z) ≡ true
 
-pub unseen_begins : (w : Drafted) (m : Nodes) (r : ℕ) (t stack : List ℕ) → Keeps m (Some r) w → stack ≡ [] ++ r ∷ [] → Unseen w m t stack
+pub unseen_begins : (w : Drafted) (m : Nodes) (r : ℕ) (t stack : List ℕ) → KeepsDraft m (Some r) w → stack ≡ [] ++ r ∷ [] → Unseen w m t stack
 unseen_begins w m r t stack k s = record {
   left = w;
   tells = record { apart = k.distinct; told = λ z h. k.stands.at z };
@@ -171,7 +171,7 @@ pub unseen_next : (w : Drafted) (m : Nodes) (t t' stack popped stack' : List ℕ
     → t' ≡ with_id t id → stack' ≡ popped ++ reverse e.node.children → Unseen w m t' stack'
 unseen_next w m t t' stack popped stack' id e l sp at tn sn = go l.left l.tells (l.tops ∙ ap reverse sp ∙ reverse-push popped id) l.seen
   where
-    go : (f : Drafted) → Tells m f → roots f ≡ id ∷ reverse popped → ((z : ℕ) → has w z ≡ true → (has f z || contains t z) ≡ true) → Unseen w m t' stack'
+    go : (f : Drafted) → TellsNodes m f → roots f ≡ id ∷ reverse popped → ((z : ℕ) → has w z ≡ true → (has f z || contains t z) ≡ true) → Unseen w m t' stack'
     go bare tl h g = absurd (cc)
     go (tree i a c r) tl h g =
         let same : i ≡ id = cc in

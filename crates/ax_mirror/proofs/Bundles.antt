@@ -22,7 +22,7 @@ use Rattle.ax_tree.specs.Updates.{applied, applied_from, applied_all, told}
 use Rattle.ax_tree.proofs.Drafts.{has-draft}
 use Rattle.ax_mirror.specs.declared.draft.Draft.{Draft}
 use Rattle.ax_mirror.specs.Placed.{Nodes}
-use Rattle.ax_mirror.specs.Kept.{Holds, shown}
+use Rattle.ax_mirror.specs.Kept.{HoldsTree, shown}
 use Rattle.ax_mirror.specs.Steps.{Updates, UpdateRefused, updated, GivesTrees, Tracked}
 use Rattle.ax_mirror.specs.Begins.{TrackedTrees, Forgets}
 use Rattle.ax_mirror.specs.Accounts.{is_listed, is_named, MayBeTouched, NamesOnly, TouchesOnly}
@@ -55,13 +55,13 @@ held_tracked d e t = λ f k. t (draft_of f) k.keeps
 
 pub record Reached (d : Draft) (f : Trees Look) (e : Draft) (b : TreeData) (us : List TreeUpdate) (i : ℕ) (t : Tree) : Type 0 where
   pub now : Trees Look
-  pub holds : Holds e.nodes e.root now
+  pub holds : HoldsTree e.nodes e.root now
   pub rest : applied_from 0 us t ≡ applied_from i (drop i us) (with_about b now)
   pub only : (z : ℕ) → contains e.touched z ≡ true → (contains d.touched z ≡ true) ⊎ MayBeTouched us f now z
   pub come : (z : ℕ) → has now z ≡ true → (has f z ≡ true) ⊎ (is_listed us z ≡ true)
 
 pub record CameTo (d : Draft) (a : TreeData) (e : Draft) (b : TreeData) (us : List TreeUpdate) (i : ℕ) : Type 0 where
-  pub came : (f : Trees Look) → Holds d.nodes d.root f → Reached d f e b us i (with_about a f)
+  pub came : (f : Trees Look) → HoldsTree d.nodes d.root f → Reached d f e b us i (with_about a f)
   pub tracked : TrackedHeld d e
 
 pub all_begin : (d : Draft) (a : TreeData) (us : List TreeUpdate) → CameTo d a d a us 0
@@ -121,15 +121,15 @@ all_only d a e b us i k = record {
 
 -- ---- what it makes of a mirror
 
-module _ (m : Nodes) (root : Option ℕ) (a : TreeData) (k : Holds m root (shown m root)) (d e : Draft) (b : TreeData) where
-  held_as : d.nodes ≡ m → d.root ≡ root → Holds d.nodes d.root (shown m root)
-  held_as p q = subst (λ (o : Option ℕ). Holds d.nodes o (shown m root)) (sym q) (subst (λ (n : Nodes). Holds n root (shown m root)) (sym p) k)
+module _ (m : Nodes) (root : Option ℕ) (a : TreeData) (k : HoldsTree m root (shown m root)) (d e : Draft) (b : TreeData) where
+  held_as : d.nodes ≡ m → d.root ≡ root → HoldsTree d.nodes d.root (shown m root)
+  held_as p q = subst (λ (o : Option ℕ). HoldsTree d.nodes o (shown m root)) (sym q) (subst (λ (n : Nodes). HoldsTree n root (shown m root)) (sym p) k)
 
   module _ {E : Type 0} (rule : Tree → Result Tree E) (p : d.nodes ≡ m) (q : d.root ≡ root) (h : Applies rule d a e b) where
     given : GivesTree e b (rule (with_about a (shown m root)))
     given = h (shown m root) (held_as p q)
 
-    pub mirror_holds : Holds e.nodes e.root (shown e.nodes e.root)
+    pub mirror_holds : HoldsTree e.nodes e.root (shown e.nodes e.root)
     mirror_holds = holds_shown e.nodes e.root given.next given.holds
 
     pub mirror_is : rule (with_about a (shown m root)) ≡ Ok (with_about b (shown e.nodes e.root))
@@ -151,9 +151,9 @@ module _ (m : Nodes) (root : Option ℕ) (a : TreeData) (k : Holds m root (shown
   mirror_broken rule r p q h = h (shown m root) (held_as p q)
 
 -- upon the empty tree
-module _ (m : Nodes) (root : Option ℕ) (old : TreeData) (k : Holds m root (shown m root)) (d e : Draft) (a b : TreeData) (fg : Forgets m root d) where
-  none_held : Holds d.nodes d.root bare
-  none_held = subst (λ (o : Option ℕ). Holds d.nodes o bare) (sym fg.none) (holds_none d.nodes fg.nodes)
+module _ (m : Nodes) (root : Option ℕ) (old : TreeData) (k : HoldsTree m root (shown m root)) (d e : Draft) (a b : TreeData) (fg : Forgets m root d) where
+  none_held : HoldsTree d.nodes d.root bare
+  none_held = subst (λ (o : Option ℕ). HoldsTree d.nodes o bare) (sym fg.none) (holds_none d.nodes fg.nodes)
 
   pub anew_broken : (rule : Tree → Result Tree BundleErr) (r : BundleErr) → IsBroken rule d a r → (r.why ≡ NoMemory) ⊎ (rule (with_about a bare) ≡ Err r)
   anew_broken rule r h = h bare none_held
@@ -162,7 +162,7 @@ module _ (m : Nodes) (root : Option ℕ) (old : TreeData) (k : Holds m root (sho
     given_anew : GivesTree e b (rule (with_about a bare))
     given_anew = h bare none_held
 
-    pub anew_holds : Holds e.nodes e.root (shown e.nodes e.root)
+    pub anew_holds : HoldsTree e.nodes e.root (shown e.nodes e.root)
     anew_holds = holds_shown e.nodes e.root given_anew.next given_anew.holds
 
     pub anew_is : rule (with_about a bare) ≡ Ok (with_about b (shown e.nodes e.root))

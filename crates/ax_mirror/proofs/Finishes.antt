@@ -14,12 +14,13 @@ use Rattle.ax_tree.specs.declared.update.Refusal.TheVariants.{Pending, TooDeep}
 use Rattle.ax_tree.specs.UpdateRule.{least, own_pending, least_pending, completed, finished}
 use Rattle.ax_mirror.specs.declared.entries.Entry.{Entry}
 use Rattle.ax_mirror.specs.Placed.{Nodes, place, told_node, told_place}
-use Rattle.ax_mirror.specs.Kept.{Keeps}
+use Rattle.ax_mirror.specs.Kept.{KeepsDraft}
 use Rattle.ax_mirror.specs.Steps.{Settled, IsSettled}
 use Rattle.ax_mirror.specs.Finishes.{is_pending, level_of, pends_among, IsLeast, IsDeepest}
-use Rattle.ax_mirror.proofs.Lists.{IsAt, contains_next, take_whole}
+use Rattle.ax_mirror.proofs.Lists.{take_whole}
 use Rattle.ax_mirror.proofs.Hangs.{low, reached}
 use Rattle.ax_mirror.proofs.Together.{is_there}
+use Rattle.ax_trees.proofs.Lists.{contains_next, IsAt}
 
 abbrev no_load : {D : Type 0} → Option D → Bool
 no_load None = true
@@ -198,7 +199,7 @@ level_told : (o : Option Entry) (q : Option ℕ) (l : ℕ) → option_map told_p
 level_told None q l h = absurd (cc)
 level_told (Some e) q l h = let s : ◌≡◌ {A = Option ℕ × ℕ} (e.above, e.level) (q, l) = cc in ap (λ (x : Option ℕ × ℕ). x.1) s
 
-module _ (m : Nodes) (made : List ℕ) (root : Option ℕ) (w : Trees (Option Look)) (k : Keeps m root w) (s : Settled m made) where
+module _ (m : Nodes) (made : List ℕ) (root : Option ℕ) (w : Trees (Option Look)) (k : KeepsDraft m root w) (s : Settled m made) where
   pending_same : (z : ℕ) → pend w z ≡ pends_among m made z
   pending_same z = ap lacks (sym (k.stands.at z)) ∙ sym (entry_lacks (fin.get m z)) ∙ by (contains made z) refl
     where

@@ -1,9 +1,8 @@
 -- What loops over a list of ids have found.
-use Rattle.std.proofs.Common.{◌≡◌, ℕ, zero, suc, ◌+◌, ◌<◌, ◌≤◌, Bool, true, false, cond, not, ◌||◌, eqb, List, [], ◌∷◌, ◌++◌, length, drop, take, get_or, Some, None, refl, sym, ap, subst, ◌∙◌, arith, append_assoc, length-append}
-use Rattle.std.proofs.lemmas.List.{drop_more, take_more}
+use Rattle.std.proofs.Common.{◌≡◌, ℕ, zero, suc, ◌+◌, ◌≤◌, Bool, true, false, cond, not, ◌||◌, eqb, List, [], ◌∷◌, ◌++◌, length, drop, take, Some, None, refl, sym, ap, subst, ◌∙◌, arith, append_assoc, length-append}
 use Rattle.std.proofs.lemmas.Bool.{eqb-true}
 use Rattle.ax_trees.specs.Lists.{contains, NoneTwice}
-use Rattle.ax_trees.proofs.Lists.{once_push}
+use Rattle.ax_trees.proofs.Lists.{once_push, drop_at, contains_push, IsAt}
 use Rattle.ax_tree.specs.UpdateRule.{first_repeated}
 use Rattle.ax_tree.specs.Touching.{with_id}
 use Rattle.ax_mirror.specs.Steps.{unlisted}
@@ -13,24 +12,6 @@ pub record Seen (p : ℕ → Bool) (xs : List ℕ) (i : ℕ) : Type 0 where
   pub seen : List ℕ
   pub same : (z : ℕ) → p z ≡ contains seen z
   pub rest : first_repeated [] xs ≡ first_repeated seen (drop i xs)
-
--- the item at an index
-pub record IsAt (xs : List ℕ) (i x : ℕ) : Type 0 where
-  pub low : i < length xs
-  pub item : x ≡ get_or xs i x
-
-pub drop_at : (xs : List ℕ) (i x : ℕ) → IsAt xs i x → drop i xs ≡ x ∷ drop (i + 1) xs
-drop_at xs i x a = drop_more xs i x a.low ∙ ap (λ y. y ∷ drop (i + 1) xs) (sym a.item)
-
-take_at : (xs : List ℕ) (i x : ℕ) → IsAt xs i x → take (i + 1) xs ≡ take i xs ++ x ∷ []
-take_at xs i x a = take_more xs i x a.low ∙ ap (λ y. take i xs ++ y ∷ []) (sym a.item)
-
-pub contains_push : (xs : List ℕ) (x z : ℕ) → contains (xs ++ x ∷ []) z ≡ cond (eqb x z) true (contains xs z)
-contains_push [] x z = grind arith
-contains_push (y ∷ ys) x z = grind (arith, contains_push ys x z)
-
-pub contains_next : (xs : List ℕ) (i x z : ℕ) → IsAt xs i x → contains (take (i + 1) xs) z ≡ cond (eqb x z) true (contains (take i xs) z)
-contains_next xs i x z a = ap (λ ys. contains ys z) (take_at xs i x a) ∙ contains_push (take i xs) x z
 
 pub contains_with : (xs : List ℕ) (x z : ℕ) → contains (with_id xs x) z ≡ cond (eqb x z) true (contains xs z)
 contains_with xs x z = go (contains xs x) refl

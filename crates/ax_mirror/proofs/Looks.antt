@@ -2,15 +2,12 @@
 use Rattle.std.proofs.Common.{◌≡◌, ℕ, zero, suc, ◌+◌, ◌-◌, ◌<◌, Bool, true, false, cond, eqb, Option, Some, None, refl, sym, ap, ◌∙◌, arith, Bor}
 use Rattle.std.specs.Prelude.{is_some, option_map}
 use Rattle.std.specs.Option.{option_copied}
-use Rattle.std.specs.Ordering.{nat_cmp, eq_by_cmp}
-use Rattle.std.proofs.lemmas.Bool.Decides.{eqb_tells, nat_tests}
+use Rattle.std.specs.Ordering.{nat_cmp}
 use Rattle.std.specs.Cmp.{nat_cmp_total}
 use Rattle.std.specs.FinMap as map
 use Rattle.ax_mirror.specs.declared.entries.Entry.{Entry}
 use Rattle.ax_mirror.specs.Placed.{Nodes}
-
-cmp_is : (a b : ℕ) → eq_by_cmp nat_cmp a b ≡ eqb b a
-cmp_is a b = grind (arith, nat_tests, eqb_tells a b, eqb_tells b a)
+use Rattle.ax_pages.proofs.TableLemmas.{cmp_is}
 
 pub get_insert : (m : Nodes) (k : ℕ) (e : Entry) (z : ℕ) → map.get (map.insert m k e) z ≡ cond (eqb k z) (Some e) (map.get m z)
 get_insert m k e z = map.get-insert nat_cmp_total m k e z ∙ ap (λ b. cond b (Some e) (map.get m z)) (cmp_is z k)

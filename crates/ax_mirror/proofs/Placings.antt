@@ -10,7 +10,8 @@ use Rattle.ax_mirror.specs.declared.draft.Draft.{Draft}
 use Rattle.ax_mirror.specs.Placed.{pending_entry}
 use Rattle.ax_mirror.specs.Steps.{PutsPending, Places, is_elsewhere}
 use Rattle.ax_mirror.proofs.Looks.{get_insert}
-use Rattle.ax_mirror.proofs.Lists.{IsAt, drop_at, contains_push, contains_next, fresh_item, take_whole, drop_whole}
+use Rattle.ax_mirror.proofs.Lists.{fresh_item, take_whole, drop_whole}
+use Rattle.ax_trees.proofs.Lists.{drop_at, contains_push, contains_next, IsAt}
 
 pub pushed_here : (xs ys : List ℕ) (x : ℕ) → ys ≡ xs ++ x ∷ [] → contains ys x ≡ true
 pushed_here xs ys x e = ap (λ js. contains js x) e ∙ contains_push xs x x ∙ (let self : eqb x x ≡ true = grind (arith, eqb_tells x x) in rw self refl)

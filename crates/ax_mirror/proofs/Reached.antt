@@ -14,7 +14,7 @@ use Rattle.ax_tree.specs.Touching.{with_id}
 use Rattle.ax_tree.specs.Tree.{Tree}
 use Rattle.ax_mirror.specs.declared.draft.Draft.{Draft}
 use Rattle.ax_mirror.specs.Placed.{Nodes}
-use Rattle.ax_mirror.specs.Kept.{Holds, shown}
+use Rattle.ax_mirror.specs.Kept.{HoldsTree, shown}
 use Rattle.ax_mirror.specs.Begins.{Forgets, root_is}
 use Rattle.ax_mirror.specs.Accounts.{Accounts, Reaches, StepsFor, all_names, is_id, list_names, lists_id, lists_child, names, no_id, node_names, start_names}
 use Rattle.ax_mirror.proofs.Lists.{contains_with}
@@ -214,13 +214,13 @@ spent us t d e n m a b r o = record {
     go false true k q f g h = or_left k q (g refl)
     go false false k q f g h = or_right k q h
 
-pub spent_on : (us : List TreeUpdate) (t : Tree) (m : Nodes) (root : Option ℕ) (d e : Draft) (n k : ℕ) → Holds m root (shown m root) → shown m root ≡ t.trees → d.nodes ≡ m → d.touched ≡ []
+pub spent_on : (us : List TreeUpdate) (t : Tree) (m : Nodes) (root : Option ℕ) (d e : Draft) (n k : ℕ) → HoldsTree m root (shown m root) → shown m root ≡ t.trees → d.nodes ≡ m → d.touched ≡ []
     → Reaches (all_names us) d e n k → NoneTwice e.touched → StepsFor us t n k
 spent_on us t m root d e n k h s q none = spent us t d e n k
     (λ z c. absurd (false≢true (sym (ap (λ js. contains js z) none) ∙ c)))
     (λ z c. sym (there_same m root (shown m root) h z ∙ ap (λ f. has f z) s) ∙ sym (ap (λ (x : Nodes). is_some (fin.get x z)) q) ∙ c)
 
-pub spent_anew : (us : List TreeUpdate) (t : Tree) (m : Nodes) (root : Option ℕ) (d e : Draft) (n k : ℕ) → Holds m root (shown m root) → shown m root ≡ t.trees → Forgets m root d
+pub spent_anew : (us : List TreeUpdate) (t : Tree) (m : Nodes) (root : Option ℕ) (d e : Draft) (n k : ℕ) → HoldsTree m root (shown m root) → shown m root ≡ t.trees → Forgets m root d
     → Reaches (all_names us) d e n k → NoneTwice e.touched → StepsFor us t n k
 spent_anew us t m root d e n k h s fg = spent us t d e n k
     (λ z c. sym (there_same m root (shown m root) h z ∙ ap (λ f. has f z) s) ∙ fg.only z c)

@@ -6,18 +6,18 @@ use Rattle.ax_node.specs.declared.node.NodeData.{NodeData}
 use Rattle.ax_trees.specs.Trees.{Trees}
 use Rattle.ax_tree.specs.declared.update.Refusal.{Refusal}
 use Rattle.ax_mirror.specs.declared.draft.Draft.{Draft}
-use Rattle.ax_mirror.specs.Kept.{Keeps}
-use Rattle.ax_mirror.specs.Steps.{taken, all_taken, Accepts, Refuses, Gives}
+use Rattle.ax_mirror.specs.Kept.{KeepsDraft}
+use Rattle.ax_mirror.specs.Steps.{taken, all_taken, Accepts, Refuses, MakesDraft}
 use Rattle.ax_mirror.proofs.Lists.{drop_whole}
 
 -- the trees that the node data before an index made
 pub record Came (e : Draft) (us : List NodeData) (i : ℕ) (w : Trees (Option Look)) : Type 0 where
   pub now : Trees (Option Look)
-  pub keeps : Keeps e.nodes e.root now
+  pub keeps : KeepsDraft e.nodes e.root now
   pub rest : all_taken w us ≡ all_taken now (drop i us)
 
 pub record RanTo (d e : Draft) (us : List NodeData) (i : ℕ) : Type 0 where
-  pub came : (w : Trees (Option Look)) → Keeps d.nodes d.root w → Came e us i w
+  pub came : (w : Trees (Option Look)) → KeepsDraft d.nodes d.root w → Came e us i w
 
 pub run_begins : (d : Draft) (us : List NodeData) → RanTo d d us 0
 run_begins d us = record { came = λ w k. record { now = w; keeps = k; rest = refl } }
@@ -35,7 +35,7 @@ pub run_next : (d e f : Draft) (us : List NodeData) (i : ℕ) (u : NodeData) →
 run_next d e f us i u r l q a = record {
   came = λ w k.
       let c : Came e us i w = r.came w k in
-      let g : Gives f (taken c.now u) = a c.now c.keeps in
+      let g : MakesDraft f (taken c.now u) = a c.now c.keeps in
       record {
         now = g.next;
         keeps = g.keeps;

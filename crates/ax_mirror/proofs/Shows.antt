@@ -1,5 +1,5 @@
 -- What a map that holds a tree tells a reader.
-use Rattle.std.proofs.Common.{◌≡◌, ℕ, ◌+◌, ◌≤◌, Bool, true, false, cond, eqb, ◌||◌, List, [], ◌∷◌, ◌++◌, map, length, Option, Some, None, refl, sym, ap, subst, ◌∙◌, arith}
+use Rattle.std.proofs.Common.{◌≡◌, ℕ, ◌+◌, ◌≤◌, Bool, true, false, cond, eqb, ◌||◌, List, [], ◌∷◌, map, length, Option, Some, None, refl, sym, ap, subst, ◌∙◌, arith}
 use Rattle.std.specs.Prelude.{option_map, option_to_list, option_and_then, is_some}
 use Rattle.std.specs.Ordering.{nat_cmp, eq_by_cmp}
 use Rattle.std.specs.List.{list_any}
@@ -13,7 +13,7 @@ use Rattle.ax_trees.specs.Nodes.{Node, node_at, parent}
 use Rattle.ax_trees.specs.Lists.{contains, NoneTwice}
 use Rattle.ax_trees.specs.Spots.{grown}
 use Rattle.ax_trees.proofs.Trees.{by_go}
-use Rattle.ax_trees.proofs.Lists.{contains-append}
+use Rattle.ax_trees.proofs.Lists.{contains-append, once_append}
 use Rattle.ax_trees.proofs.Grown.{told}
 use Rattle.ax_trees.proofs.PlacedParents.{parent_none}
 use Rattle.ax_trees.proofs.Times.{contains-ids, length-ids, has-node}
@@ -22,12 +22,12 @@ use Rattle.ax_tree.specs.Tree.{data_of}
 use Rattle.ax_tree.proofs.Drafts.{has-draft, has_root-draft, roots-draft, height-draft, completed-draft}
 use Rattle.ax_mirror.specs.declared.entries.Entry.{Entry}
 use Rattle.ax_mirror.specs.Placed.{Nodes, look, place, told_node, told_place}
-use Rattle.ax_mirror.specs.Kept.{Holds, shown}
+use Rattle.ax_mirror.specs.Kept.{HoldsTree, shown}
 use Rattle.ax_mirror.proofs.Looks.{get_remove, len_remove, is_some-map}
 use Rattle.ax_mirror.proofs.Hangs.{above_is_parent}
 
 -- the map that holds trees shows them
-pub shown_is : (m : Nodes) (root : Option ℕ) (f : Trees Look) → Holds m root f → shown m root ≡ f
+pub shown_is : (m : Nodes) (root : Option ℕ) (f : Trees Look) → HoldsTree m root f → shown m root ≡ f
 shown_is m root f h =
     let s : height (draft_of f) ≡ height f = height-draft f in
     let l : height f ≤ 256 = h.low in
@@ -35,11 +35,11 @@ shown_is m root f h =
     let g : grown (look m) 256 (roots (draft_of f)) ≡ draft_of f = told (look m) 256 (draft_of f) h.keeps.distinct low (λ z _. h.keeps.stands.at z) in
     ap (completed blank_look) (ap (grown (look m) 256) (sym h.keeps.tops) ∙ g) ∙ completed-draft blank_look f
 
-pub holds_shown : (m : Nodes) (root : Option ℕ) (f : Trees Look) → Holds m root f → Holds m root (shown m root)
-holds_shown m root f h = subst (λ v. Holds m root v) (sym (shown_is m root f h)) h
+pub holds_shown : (m : Nodes) (root : Option ℕ) (f : Trees Look) → HoldsTree m root f → HoldsTree m root (shown m root)
+holds_shown m root f h = subst (λ v. HoldsTree m root v) (sym (shown_is m root f h)) h
 
 -- an empty map holds no tree
-pub holds_none : (m : Nodes) → m ≡ fin.empty → Holds m None bare
+pub holds_none : (m : Nodes) → m ≡ fin.empty → HoldsTree m None bare
 holds_none m e = record {
   keeps = record {
     distinct = tt;
@@ -49,12 +49,6 @@ holds_none m e = record {
   };
   low = omega arith;
 }
-
-none_twice : (xs ys : List ℕ) → NoneTwice xs → NoneTwice ys → ((z : ℕ) → contains xs z ≡ true → contains ys z ≡ false) → NoneTwice (xs ++ ys)
-none_twice [] ys o p h = p
-none_twice (x ∷ xs) ys o p h =
-    let here : contains ys x ≡ false = h x (grind (arith, eqb_tells x x)) in
-    (contains-append xs ys x ∙ rw (here, o.0) refl, none_twice xs ys o.1 p (λ z c. h z (grind (arith, c))))
 
 module _ {X : Type 0} where
   pub distinct-undraft : (f : Trees X) → IsDistinct (draft_of f) → IsDistinct f
@@ -91,7 +85,7 @@ module _ {X : Type 0} where
   ids_once bare d = tt
   ids_once (tree i e k r) d = (
     contains-append (ids k) (ids r) i ∙ (let a : contains (ids k) i ≡ false = contains-ids k i ∙ d.0 in let b : contains (ids r) i ≡ false = contains-ids r i ∙ d.1 in rw (a, b) refl),
-    none_twice (ids k) (ids r) (ids_once k d.3) (ids_once r d.4) (λ z c. contains-ids r z ∙ d.2.apart z (sym (contains-ids k z) ∙ c)),
+    once_append (ids k) (ids r) (ids_once k d.3) (ids_once r d.4) (λ z c. contains-ids r z ∙ d.2.apart z (sym (contains-ids k z) ∙ c)),
   )
 
 -- ---- how many
@@ -124,10 +118,10 @@ sized (x ∷ xs) m o h =
         let same : is_some (fin.get (fin.remove m x) z) ≡ is_some (fin.get m z) = ap is_some (get_remove m x z ∙ ap (λ b. cond b None (fin.get m z)) q) in
         (rw q at g) ∙ sym same
 
-pub there_same : (m : Nodes) (root : Option ℕ) (f : Trees Look) → Holds m root f → (z : ℕ) → is_some (fin.get m z) ≡ has f z
+pub there_same : (m : Nodes) (root : Option ℕ) (f : Trees Look) → HoldsTree m root f → (z : ℕ) → is_some (fin.get m z) ≡ has f z
 there_same m root f h z = sym (is_some-map told_node (fin.get m z)) ∙ ap is_some (h.keeps.stands.at z) ∙ sym (has-node (draft_of f) z) ∙ has-draft f z
 
-pub count_is : (m : Nodes) (root : Option ℕ) (f : Trees Look) → Holds m root f → fin.len m ≡ count f
+pub count_is : (m : Nodes) (root : Option ℕ) (f : Trees Look) → HoldsTree m root f → fin.len m ≡ count f
 count_is m root f h = sym (sized (ids f) m (ids_once f (distinct-undraft f h.keeps.distinct)) (λ z. contains-ids f z ∙ sym (there_same m root f h z))) ∙ length-ids f
 
 -- ---- one node
@@ -154,7 +148,7 @@ entry_data (Some e) (Some n) h = go e.pending n refl (cc)
         let c : e.node.children ≡ n.children = ap (λ (x : Node (Option Look)). x.children) g in
         λ t. Some (node_of (i t) (l t) (c t))
 
-pub node_read : (m : Nodes) (root : Option ℕ) (f : Trees Look) (z : ℕ) → Holds m root f → data_at m z ≡ option_map data_of (node_at f z)
+pub node_read : (m : Nodes) (root : Option ℕ) (f : Trees Look) (z : ℕ) → HoldsTree m root f → data_at m z ≡ option_map data_of (node_at f z)
 node_read m root f z h = entry_data (fin.get m z) (node_at f z) (h.keeps.stands.at z ∙ node-draft f z)
 
 above_told : (o : Option Entry) (p : Option ℕ) (l : ℕ) → option_map told_place o ≡ Some (p, l) → option_and_then (λ (e : Entry). e.above) o ≡ p
@@ -165,19 +159,19 @@ none_above : (o : Option Entry) → is_some o ≡ false → option_and_then (λ 
 none_above None h = refl
 none_above (Some e) h = absurd (false≢true (sym h))
 
-pub parent_read : (m : Nodes) (root : Option ℕ) (f : Trees Look) (z : ℕ) → Holds m root f → above_at m z ≡ parent f z
+pub parent_read : (m : Nodes) (root : Option ℕ) (f : Trees Look) (z : ℕ) → HoldsTree m root f → above_at m z ≡ parent f z
 parent_read m root f z h =
     by_go (has f z)
     (λ q. let it : (l : ℕ) × (place m z ≡ Some (parent (draft_of f) z, l)) = above_is_parent (place m) 1 (draft_of f) z h.keeps.distinct h.keeps.hung (has-draft f z ∙ q) in
     above_told (fin.get m z) (parent (draft_of f) z) it.0 it.1 ∙ parent-draft f z)
     (λ q. none_above (fin.get m z) (there_same m root f h z ∙ q) ∙ sym (parent_none f z q))
 
-pub is_tree : (m : Nodes) (root : Option ℕ) (f : Trees Look) → Holds m root f → IsTree f
+pub is_tree : (m : Nodes) (root : Option ℕ) (f : Trees Look) → HoldsTree m root f → IsTree f
 is_tree m root f h = record { one_root = single_roots f root (sym (roots-draft f) ∙ h.keeps.tops); distinct = distinct-undraft f h.keeps.distinct }
 
-pub root_read : (m : Nodes) (root : Option ℕ) (f : Trees Look) → Holds m root f → root ≡ root_of f
+pub root_read : (m : Nodes) (root : Option ℕ) (f : Trees Look) → HoldsTree m root f → root ≡ root_of f
 root_read m root f h = root_roots f root (sym (roots-draft f) ∙ h.keeps.tops)
 
 -- what isn't touched has the same data in both trees
-pub same_data : (m n : Nodes) (p q : Option ℕ) (f g : Trees Look) (z : ℕ) → Holds m p f → Holds n q g → fin.get n z ≡ fin.get m z → option_map data_of (node_at g z) ≡ option_map data_of (node_at f z)
+pub same_data : (m n : Nodes) (p q : Option ℕ) (f g : Trees Look) (z : ℕ) → HoldsTree m p f → HoldsTree n q g → fin.get n z ≡ fin.get m z → option_map data_of (node_at g z) ≡ option_map data_of (node_at f z)
 same_data m n p q f g z h k e = sym (node_read n q g z k) ∙ ap (option_map (λ (x : Entry). x.node)) e ∙ node_read m p f z h

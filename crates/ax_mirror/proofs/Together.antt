@@ -23,10 +23,12 @@ use Rattle.ax_tree.proofs.Arranged.{arranged_from, only_in, distinct_arranged}
 use Rattle.ax_tree.proofs.NodeSteps.{stands_step, only_below, only_root}
 use Rattle.ax_mirror.specs.declared.entries.Entry.{Entry}
 use Rattle.ax_mirror.specs.Placed.{Nodes, look, place, told_node, told_place, pending_entry}
-use Rattle.ax_mirror.specs.Kept.{Hung, Keeps}
-use Rattle.ax_mirror.specs.Steps.{unlisted, Tells, is_elsewhere, taken}
+use Rattle.ax_mirror.specs.Kept.{Hung, KeepsDraft}
+use Rattle.ax_mirror.specs.Steps.{unlisted, TellsNodes, is_elsewhere, taken}
 use Rattle.ax_mirror.proofs.Looks.{map_cond, is_some-map}
 use Rattle.ax_mirror.proofs.Hangs.{hung_below, hung_with, hung_arranged}
+use Rattle.ax_tree.proofs.Taken.{twice_apart, none_that, not_seen}
+use Rattle.ax_pages.proofs.TableLemmas.{none_anyway}
 
 abbrev Drafted : Type 0
 Drafted = Trees (Option Look)
@@ -103,10 +105,6 @@ kept_is w y e cs z d h t =
 kept_there : (w : Drafted) (y : ℕ) (e : Option Look) (cs : List ℕ) (z : ℕ) → has (with_node w y e (only (below w y) cs)) z ≡ true → has w z ≡ true
 kept_there w y e cs z h = grind (arith, with_node_from w y e (only (below w y) cs) z h, only_in (below w y) cs z, below_in w y z)
 
-pub none_anyway : {X : Type 0} (b : Bool) → ◌≡◌ {A = Option X} (cond b None None) None
-none_anyway true = refl
-none_anyway false = refl
-
 turned : {X : Type 0} (b : Bool) (o : Option X) → cond b None o ≡ cond (not b) o None
 turned true o = refl
 turned false o = refl
@@ -179,18 +177,6 @@ roots-leaves : (cs : List ℕ) → roots (leaves cs) ≡ cs
 roots-leaves [] = refl
 roots-leaves (c ∷ cs) = ap (λ js. c ∷ js) (roots-leaves cs)
 
-not_seen : (b : Bool) (c : ℕ) (o : Option ℕ) → cond b (Some c) o ≡ None → (b ≡ false) × (o ≡ None)
-not_seen true c o h = absurd (cc)
-not_seen false c o h = (refl, h)
-
-twice_apart : (seen cs : List ℕ) (z : ℕ) → first_repeated seen cs ≡ None → contains seen z ≡ true → contains cs z ≡ false
-twice_apart seen [] z h s = refl
-twice_apart seen (c ∷ cs) z h s =
-    let n = not_seen _ _ _ h in
-    let no : eqb c z ≡ false = false_from_ne_true (eqb c z) (λ g. let t : contains seen c ≡ true = subst (λ j. contains seen j ≡ true) (sym (eqb-true c z g)) s in false≢true (sym n.0 ∙ t)) in
-    let later : contains cs z ≡ false = twice_apart (c ∷ seen) cs z n.1 (grind (arith, s)) in
-    rw no later
-
 distinct_leaves : (seen cs : List ℕ) → first_repeated seen cs ≡ None → IsDistinct (leaves cs)
 distinct_leaves seen [] h = tt
 distinct_leaves seen (c ∷ cs) h =
@@ -201,14 +187,6 @@ distinct_leaves seen (c ∷ cs) h =
       tt,
       distinct_leaves (c ∷ seen) cs n.1,
     )
-
-none_that : (p : ℕ → Bool) (cs : List ℕ) (z : ℕ) → first_that p cs ≡ None → contains cs z ≡ true → p z ≡ false
-none_that p [] z h c = absurd (false≢true c)
-none_that p (x ∷ cs) z h c =
-    let n = not_seen _ _ _ h in
-    by_go (eqb x z)
-    (λ q. ap p (sym (eqb-true x z q)) ∙ n.0)
-    (λ q. none_that p cs z n.1 (grind (arith, c, q)))
 
 pub not_there : (m : Nodes) (y : ℕ) (w : Drafted) → None ≡ map.get m y → Stands (look m) w → has w y ≡ false
 not_there m y w h st = false_from_ne_true (has w y) (λ t. let s = node_some w y t in let e : look m y ≡ None = ap (option_map told_node) (sym h) in let f : look m y ≡ Some s.0 = st.at y ∙ s.1 in absurd (cc))
@@ -227,7 +205,7 @@ given u = Some (look_of u)
 abbrev pub with_next : Drafted → NodeData → Drafted
 with_next w u = with_node w u.id (given u) (arranged None u.children (below w u.id))
 
-module _ (m : Nodes) (u : NodeData) (e : Entry) (there : Some e ≡ map.get m u.id) (root : Option ℕ) (w : Drafted) (kp : Keeps m root w) where
+module _ (m : Nodes) (u : NodeData) (e : Entry) (there : Some e ≡ map.get m u.id) (root : Option ℕ) (w : Drafted) (kp : KeepsDraft m root w) where
   d : IsDistinct w
   d = kp.distinct
 
@@ -249,7 +227,7 @@ module _ (m : Nodes) (u : NodeData) (e : Entry) (there : Some e ≡ map.get m u.
   pub refused_twice : (c : ℕ) → first_repeated [] u.children ≡ Some c → taken w u ≡ Err (DuplicateChild c)
   refused_twice c h = rw (has_y, h) refl
 
-  pub tells_leave : Tells m (leave (below w u.id) u.children)
+  pub tells_leave : TellsNodes m (leave (below w u.id) u.children)
   tells_leave = record {
     apart = distinct_leave (below w u.id) u.children (distinct_below w u.id d);
     told = λ z h.
@@ -373,7 +351,7 @@ module _ (m : Nodes) (u : NodeData) (e : Entry) (there : Some e ≡ map.get m u.
             (λ z c t. place_kept z (has_with_node_in w u.id (given u) (only (below w u.id) u.children) z has_y (only_root (below w u.id) u.children z c t)))
             (λ x z c h. place_kept z (has_with_node_in w u.id (given u) (only (below w u.id) u.children) z has_y (only_below (below w u.id) u.children x z c h))))
 
-        pub keeps_on : Keeps n3 root (with_node w u.id (given u) (arranged None u.children (below w u.id)))
+        pub keeps_on : KeepsDraft n3 root (with_node w u.id (given u) (arranged None u.children (below w u.id)))
         keeps_on = record {
           distinct = is_apart;
           tops = roots-with_node w u.id (given u) (arranged None u.children (below w u.id)) ∙ kp.tops;

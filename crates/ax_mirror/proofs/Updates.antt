@@ -14,8 +14,8 @@ use Rattle.ax_tree.proofs.Drafts.{has-draft, height-draft}
 use Rattle.ax_mirror.specs.declared.entries.Entry.{Entry}
 use Rattle.ax_mirror.specs.declared.draft.Draft.{Draft}
 use Rattle.ax_mirror.specs.Placed.{Nodes, place, told_node, told_place}
-use Rattle.ax_mirror.specs.Kept.{Keeps, Holds}
-use Rattle.ax_mirror.specs.Steps.{Makes, Unmade, Settled, IsSettled, Gives, GivesTrees, all_taken, updated}
+use Rattle.ax_mirror.specs.Kept.{KeepsDraft, HoldsTree}
+use Rattle.ax_mirror.specs.Steps.{Makes, Unmade, Settled, IsSettled, MakesDraft, GivesTrees, all_taken, updated}
 use Rattle.ax_mirror.specs.Begins.{missing_in}
 use Rattle.ax_mirror.specs.Finishes.{Finished}
 use Rattle.ax_mirror.proofs.Looks.{is_some-map}
@@ -53,7 +53,7 @@ settle None (Some e) u s = absurd u
 settle (Some d) (Some e) u s = (u.1 s.0, subst (λ l. l ≤ 256) (sym u.0) s.1)
 
 -- what holds trees is settled
-pub all_settled : (m : Nodes) (root : Option ℕ) (f : Trees Look) → Holds m root f → (z : ℕ) (o : Option Entry) → fin.get m z ≡ o → IsSettled o
+pub all_settled : (m : Nodes) (root : Option ℕ) (f : Trees Look) → HoldsTree m root f → (z : ℕ) (o : Option Entry) → fin.get m z ≡ o → IsSettled o
 all_settled m root f h z None g = tt
 all_settled m root f h z (Some x) g =
     let w : Trees (Option Look) = draft_of f in
@@ -63,10 +63,10 @@ all_settled m root f h z (Some x) g =
     let q : height f ≤ 256 = h.low in
     (p, omega arith)
 
-pub settled_of : (d e : Draft) (f : Trees Look) → Holds d.nodes d.root f → Makes d e → Settled e.nodes e.made
+pub settled_of : (d e : Draft) (f : Trees Look) → HoldsTree d.nodes d.root f → Makes d e → Settled e.nodes e.made
 settled_of d e f h k = λ z c. settle (fin.get d.nodes z) (fin.get e.nodes z) (k.unmade z c) (all_settled d.nodes d.root f h z (fin.get d.nodes z) refl)
 
-pub missing_same : (m : Nodes) (root : Option ℕ) (f : Trees Look) (o : Option ℕ) → Holds m root f → missing_in m o ≡ missing f o
+pub missing_same : (m : Nodes) (root : Option ℕ) (f : Trees Look) (o : Option ℕ) → HoldsTree m root f → missing_in m o ≡ missing f o
 missing_same m root f None h = refl
 missing_same m root f (Some z) h =
     let s : is_some (fin.get m z) ≡ has f z = sym (is_some-map told_node (fin.get m z)) ∙ ap is_some (h.keeps.stands.at z) ∙ sym (has-node (draft_of f) z) ∙ has-draft f z in
@@ -81,7 +81,7 @@ refused_node u f r m a = rw (m, a) refl
 pub refused_end : (u : TreeUpdate) (f : Trees Look) (v : Trees (Option Look)) (r : Refusal) → missing f u.clear ≡ None → all_taken (started u.root u.clear (draft_of f)) u.nodes ≡ Ok v → finished blank_look v ≡ Err r → updated u f ≡ Err r
 refused_end u f v r m a e = rw (m, a, e) refl
 
-pub gives_trees : (u : TreeUpdate) (f : Trees Look) (e : Draft) → missing f u.clear ≡ None → Gives e (all_taken (started u.root u.clear (draft_of f)) u.nodes) → Finished e.nodes e.made → Settled e.nodes e.made → GivesTrees e (updated u f)
+pub gives_trees : (u : TreeUpdate) (f : Trees Look) (e : Draft) → missing f u.clear ≡ None → MakesDraft e (all_taken (started u.root u.clear (draft_of f)) u.nodes) → Finished e.nodes e.made → Settled e.nodes e.made → GivesTrees e (updated u f)
 gives_trees u f e m g fin s =
     let v : Trees (Option Look) = g.next in
     let a : all_taken (started u.root u.clear (draft_of f)) u.nodes ≡ Ok v = g.is in
@@ -93,7 +93,7 @@ gives_trees u f e m g fin s =
       next = completed blank_look v;
       is = rw (m, a) t2;
       holds = record {
-        keeps = subst (λ (w : Trees (Option Look)). Keeps e.nodes e.root w) (sym (draft-completed blank_look v t.0)) g.keeps;
+        keeps = subst (λ (w : Trees (Option Look)). KeepsDraft e.nodes e.root w) (sym (draft-completed blank_look v t.0)) g.keeps;
         low = omega arith;
       };
     }

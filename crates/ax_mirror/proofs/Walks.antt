@@ -10,13 +10,13 @@ use Rattle.ax_trees.specs.Trees.{Trees, bare, tree, has, roots, IsDistinct}
 use Rattle.ax_trees.specs.Nodes.{Node, node_at}
 use Rattle.ax_mirror.specs.declared.entries.Entry.{Entry}
 use Rattle.ax_mirror.specs.Placed.{Nodes, look, told_node}
-use Rattle.ax_mirror.specs.Steps.{Tells}
+use Rattle.ax_mirror.specs.Steps.{TellsNodes}
 use Rattle.ax_mirror.proofs.Looks.{map_cond}
 
 -- these trees are left of the trees k; the rest of k is out
 pub record Left (k : Trees (Option Look)) (m n : Nodes) (stack : List ℕ) : Type 0 where
   pub left : Trees (Option Look)
-  pub tells : Tells n left
+  pub tells : TellsNodes n left
   pub tops : roots left ≡ reverse stack
   pub within : (z : ℕ) → has left z ≡ true → has k z ≡ true
   pub gone : (z : ℕ) → map.get n z ≡ cond (has k z && not (has left z)) None (map.get m z)
@@ -49,7 +49,7 @@ module _ {D : Type 0} where
   node_beside bare b z = refl
   node_beside (tree i e k r) b z = grind (arith, node_beside r b z)
 
-pub left_begins : (k : Trees (Option Look)) (m : Nodes) (stack : List ℕ) → Tells m k → roots k ≡ reverse stack → Left k m m stack
+pub left_begins : (k : Trees (Option Look)) (m : Nodes) (stack : List ℕ) → TellsNodes m k → roots k ≡ reverse stack → Left k m m stack
 left_begins k m stack t h = record { left = k; tells = t; tops = h; within = λ z w. w; gone = λ z. go z (has k z) }
   where
     go : (z : ℕ) (b : Bool) → map.get m z ≡ cond (b && not b) None (map.get m z)
@@ -69,7 +69,7 @@ left_next k m n n' stack popped stack' id e l sp at w sn = go l.left l.tells (l.
     w' : (z : ℕ) → look n' z ≡ cond (eqb id z) None (look n z)
     w' z = ap (option_map told_node) (w z) ∙ map_cond told_node (eqb id z) None (map.get n z)
 
-    go : (f : Trees (Option Look)) → Tells n f → roots f ≡ id ∷ reverse popped → ((z : ℕ) → has f z ≡ true → has k z ≡ true) → ((z : ℕ) → map.get n z ≡ cond (has k z && not (has f z)) None (map.get m z)) → Left k m n' stack'
+    go : (f : Trees (Option Look)) → TellsNodes n f → roots f ≡ id ∷ reverse popped → ((z : ℕ) → has f z ≡ true → has k z ≡ true) → ((z : ℕ) → map.get n z ≡ cond (has k z && not (has f z)) None (map.get m z)) → Left k m n' stack'
     go bare t h i g = absurd (cc)
     go (tree i a c r) t h inn g =
         let same : i ≡ id = cc in

@@ -8,7 +8,7 @@ use Rattle.ax_trees.specs.Lists.{contains, NoneTwice}
 use Rattle.ax_tree.specs.Tree.{Tree}
 use Rattle.ax_tree.specs.declared.update.TreeUpdate.{TreeUpdate}
 use Rattle.ax_mirror.specs.declared.draft.Draft.{Draft}
-use Rattle.ax_mirror.specs.Kept.{Holds}
+use Rattle.ax_mirror.specs.Kept.{HoldsTree}
 use Rattle.ax_mirror.specs.Begins.{root_is}
 use Rattle.ax_mirror.specs.Finishes.{is_pending}
 
@@ -69,8 +69,8 @@ names u z = start_names u.root u.clear z || list_names u.nodes z
 
 -- Where d holds f and e holds g, only ids that were touched before or may be touched are touched, and g has nodes of f and listed ones alone.
 pub record TouchesOnly (us : List TreeUpdate) (d e : Draft) : Type 0 where
-  pub only : (f g : Trees Look) → Holds d.nodes d.root f → Holds e.nodes e.root g → (z : ℕ) → contains e.touched z ≡ true → (contains d.touched z ≡ true) ⊎ MayBeTouched us f g z
-  pub come : (f g : Trees Look) → Holds d.nodes d.root f → Holds e.nodes e.root g → (z : ℕ) → has g z ≡ true → (has f z ≡ true) ⊎ (is_listed us z ≡ true)
+  pub only : (f g : Trees Look) → HoldsTree d.nodes d.root f → HoldsTree e.nodes e.root g → (z : ℕ) → contains e.touched z ≡ true → (contains d.touched z ≡ true) ⊎ MayBeTouched us f g z
+  pub come : (f g : Trees Look) → HoldsTree d.nodes d.root f → HoldsTree e.nodes e.root g → (z : ℕ) → has g z ≡ true → (has f z ≡ true) ⊎ (is_listed us z ≡ true)
 
 -- What a call did that stopped from d to e: it touched only what d had touched, ids of d and named ids, and its steps, which rose from n to m, are no more than the ids that it touched.
 pub record Reaches (named : ℕ → Bool) (d e : Draft) (n m : ℕ) : Type 0 where

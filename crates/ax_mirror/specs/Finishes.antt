@@ -8,7 +8,7 @@ use Rattle.ax_tree.specs.declared.update.Refusal.{Refusal}
 use Rattle.ax_tree.specs.UpdateRule.{least_pending, completed, finished}
 use Rattle.ax_mirror.specs.declared.entries.Entry.{Entry}
 use Rattle.ax_mirror.specs.Placed.{Nodes}
-use Rattle.ax_mirror.specs.Kept.{Keeps}
+use Rattle.ax_mirror.specs.Kept.{KeepsDraft}
 use Rattle.ax_mirror.specs.Steps.{Settled}
 
 abbrev pub is_pending : Option Entry → Bool
@@ -35,9 +35,9 @@ pub record IsDeepest (m : Nodes) (ids : List ℕ) (n : ℕ) : Type 0 where
 
 -- Where what wasn't made is settled, the rule accepts the draft as it stands, ..
 abbrev pub Finished : Nodes → List ℕ → Type 0
-Finished m made = (root : Option ℕ) (w : Trees (Option Look)) → Keeps m root w → Settled m made
+Finished m made = (root : Option ℕ) (w : Trees (Option Look)) → KeepsDraft m root w → Settled m made
     → (least_pending w ≡ None) × (height w ≤ 256) × (finished blank_look w ≡ Ok (completed blank_look w))
 
 -- .. or refuses it.
 abbrev pub Unfinished : Nodes → List ℕ → Refusal → Type 0
-Unfinished m made r = (root : Option ℕ) (w : Trees (Option Look)) → Keeps m root w → Settled m made → finished blank_look w ≡ Err r
+Unfinished m made r = (root : Option ℕ) (w : Trees (Option Look)) → KeepsDraft m root w → Settled m made → finished blank_look w ≡ Err r

@@ -12,15 +12,15 @@ Hung at above n bare = Unit {0}
 Hung at above n (tree i x inner others) = (at i ≡ Some (above, n)) × Hung at (Some i) (suc n) inner × Hung at above n others
 
 -- the map keeps the trees w, of which some nodes may be pending
-pub record Keeps (m : Nodes) (root : Option ℕ) (w : Trees (Option Look)) : Type 0 where
+pub record KeepsDraft (m : Nodes) (root : Option ℕ) (w : Trees (Option Look)) : Type 0 where
   pub distinct : IsDistinct w
   pub tops : roots w ≡ option_to_list root
   pub stands : Stands (look m) w
   pub hung : Hung (place m) None 1 w
 
 -- the map keeps the trees f, none of which is pending, and no chain has more than 256 nodes
-pub record Holds (m : Nodes) (root : Option ℕ) (f : Trees Look) : Type 0 where
-  pub keeps : Keeps m root (draft_of f)
+pub record HoldsTree (m : Nodes) (root : Option ℕ) (f : Trees Look) : Type 0 where
+  pub keeps : KeepsDraft m root (draft_of f)
   pub low : height f ≤ 256
 
 -- the trees that a map shows

@@ -12,7 +12,7 @@ use Rattle.ax_tree.specs.declared.update.Refusal.TheVariants.{NoMemory}
 use Rattle.ax_tree.specs.declared.update.BundleErr.{BundleErr}
 use Rattle.ax_tree.specs.Tree.{Tree, empty, node}
 use Rattle.ax_mirror.specs.declared.draft.Draft.{Draft}
-use Rattle.ax_mirror.specs.Kept.{Holds}
+use Rattle.ax_mirror.specs.Kept.{HoldsTree}
 use Rattle.ax_mirror.specs.Steps.{Tracked}
 
 -- a tree is stored as the pair of its parts
@@ -41,23 +41,23 @@ base_of fresh t = if fresh then empty t.about.tree else t
 pub record GivesTree (e : Draft) (b : TreeData) {E : Type 0} (r : Result Tree E) : Type 0 where
   pub next : Trees Look
   pub is : r ≡ Ok (record { about = b; trees = next })
-  pub holds : Holds e.nodes e.root next
+  pub holds : HoldsTree e.nodes e.root next
 
 abbrev pub with_about : TreeData → Trees Look → Tree
 with_about a f = record { about = a; trees = f }
 
 -- For each tree that the old draft holds, the new one holds what the rule makes of it, ..
 abbrev pub Applies : {E : Type 0} → (Tree → Result Tree E) → Draft → TreeData → Draft → TreeData → Type 0
-Applies rule d a e b = (f : Trees Look) → Holds d.nodes d.root f → GivesTree e b (rule (with_about a f))
+Applies rule d a e b = (f : Trees Look) → HoldsTree d.nodes d.root f → GivesTree e b (rule (with_about a f))
 
 -- .. or the rule refuses it, ..
 abbrev pub IsRefused : (Tree → Result Tree Refusal) → Draft → TreeData → Refusal → Type 0
-IsRefused rule d a r = (f : Trees Look) → Holds d.nodes d.root f → RefusedAs r (rule (with_about a f))
+IsRefused rule d a r = (f : Trees Look) → HoldsTree d.nodes d.root f → RefusedAs r (rule (with_about a f))
 
 -- .. and so for bundles.
 abbrev pub IsBroken : (Tree → Result Tree BundleErr) → Draft → TreeData → BundleErr → Type 0
-IsBroken rule d a r = (f : Trees Look) → Holds d.nodes d.root f → BrokenAs r (rule (with_about a f))
+IsBroken rule d a r = (f : Trees Look) → HoldsTree d.nodes d.root f → BrokenAs r (rule (with_about a f))
 
 -- what isn't touched stays, where the draft holds a tree
 abbrev pub TrackedHeld : Draft → Draft → Type 0
-TrackedHeld d e = (f : Trees Look) → Holds d.nodes d.root f → Tracked d e
+TrackedHeld d e = (f : Trees Look) → HoldsTree d.nodes d.root f → Tracked d e

@@ -15,7 +15,7 @@ use Rattle.ax_tree.specs.Updates.{nodes_part}
 use Rattle.ax_mirror.specs.declared.entries.Entry.{Entry}
 use Rattle.ax_mirror.specs.declared.draft.Draft.{Draft}
 use Rattle.ax_mirror.specs.Placed.{Nodes, look, pending_entry}
-use Rattle.ax_mirror.specs.Kept.{Keeps, Holds}
+use Rattle.ax_mirror.specs.Kept.{KeepsDraft, HoldsTree}
 
 -- the ids that don't pass
 abbrev pub unlisted : (ℕ → Bool) → List ℕ → List ℕ
@@ -23,7 +23,7 @@ unlisted p [] = []
 unlisted p (i ∷ is) = if p i then unlisted p is else i ∷ unlisted p is
 
 -- the nodes of these trees are in the map
-pub record Tells (m : Nodes) (k : Trees (Option Look)) : Type 0 where
+pub record TellsNodes (m : Nodes) (k : Trees (Option Look)) : Type 0 where
   pub apart : IsDistinct k
   pub told : (z : ℕ) → has k z ≡ true → look m z ≡ node_at k z
 
@@ -48,7 +48,7 @@ pub record TakesOut (d e : Draft) (stack : List ℕ) : Type 0 where
   pub root : e.root ≡ d.root
   pub made : e.made ≡ d.made
   pub less : (z : ℕ) → (fin.get e.nodes z ≡ None) ⊎ (fin.get e.nodes z ≡ fin.get d.nodes z)
-  pub out : (k : Trees (Option Look)) → Tells d.nodes k → roots k ≡ reverse stack → (z : ℕ) → fin.get e.nodes z ≡ (if has k z then None else fin.get d.nodes z)
+  pub out : (k : Trees (Option Look)) → TellsNodes d.nodes k → roots k ≡ reverse stack → (z : ℕ) → fin.get e.nodes z ≡ (if has k z then None else fin.get d.nodes z)
 
 -- an id that is there and isn't an old child
 abbrev pub is_elsewhere : Nodes → (ℕ → Bool) → ℕ → Bool
@@ -69,10 +69,10 @@ pub record Places (d e : Draft) (above : ℕ) (level : ℕ) (old : ℕ → Bool)
   pub grows : (z : ℕ) → contains d.made z ≡ true → contains e.made z ≡ true
 
 -- the rule gives trees, and the draft keeps them
-pub record Gives (e : Draft) (r : Result (Trees (Option Look)) Refusal) : Type 0 where
+pub record MakesDraft (e : Draft) (r : Result (Trees (Option Look)) Refusal) : Type 0 where
   pub next : Trees (Option Look)
   pub is : r ≡ Ok next
-  pub keeps : Keeps e.nodes e.root next
+  pub keeps : KeepsDraft e.nodes e.root next
 
 abbrev pub taken : Trees (Option Look) → NodeData → Result (Trees (Option Look)) Refusal
 taken w u = node_taken None (λ z. false) w (draft_node (as_node u))
@@ -82,11 +82,11 @@ all_taken w us = nodes_taken None (λ z. false) w (map draft_node (map as_node u
 
 -- For all trees that the old draft keeps, the new one keeps what the rule makes of them, ..
 abbrev pub Accepts : (Trees (Option Look) → Result (Trees (Option Look)) Refusal) → Draft → Draft → Type 0
-Accepts rule d e = (w : Trees (Option Look)) → Keeps d.nodes d.root w → Gives e (rule w)
+Accepts rule d e = (w : Trees (Option Look)) → KeepsDraft d.nodes d.root w → MakesDraft e (rule w)
 
 -- .. or the rule refuses them for this reason, or there was no memory.
 abbrev pub Refuses : (Trees (Option Look) → Result (Trees (Option Look)) Refusal) → Draft → Refusal → Type 0
-Refuses rule d r = (w : Trees (Option Look)) → Keeps d.nodes d.root w → (r ≡ NoMemory) ⊎ (rule w ≡ Err r)
+Refuses rule d r = (w : Trees (Option Look)) → KeepsDraft d.nodes d.root w → (r ≡ NoMemory) ⊎ (rule w ≡ Err r)
 
 -- what isn't among the listed ids is settled: not pending, and not too deep
 abbrev pub IsSettled : Option Entry → Type 0
@@ -100,13 +100,13 @@ Settled m made = (z : ℕ) → contains made z ≡ false → IsSettled (fin.get 
 pub record GivesTrees (e : Draft) (r : Result (Trees Look) Refusal) : Type 0 where
   pub next : Trees Look
   pub is : r ≡ Ok next
-  pub holds : Holds e.nodes e.root next
+  pub holds : HoldsTree e.nodes e.root next
 
 abbrev pub updated : TreeUpdate → Trees Look → Result (Trees Look) Refusal
 updated u f = trees_after blank_look (nodes_part u) f
 
 abbrev pub Updates : Draft → Draft → TreeUpdate → Type 0
-Updates d e u = (f : Trees Look) → Holds d.nodes d.root f → GivesTrees e (updated u f)
+Updates d e u = (f : Trees Look) → HoldsTree d.nodes d.root f → GivesTrees e (updated u f)
 
 abbrev pub UpdateRefused : Draft → TreeUpdate → Refusal → Type 0
-UpdateRefused d u r = (f : Trees Look) → Holds d.nodes d.root f → (r ≡ NoMemory) ⊎ (updated u f ≡ Err r)
+UpdateRefused d u r = (f : Trees Look) → HoldsTree d.nodes d.root f → (r ≡ NoMemory) ⊎ (updated u f ≡ Err r)

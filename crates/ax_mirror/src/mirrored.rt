@@ -28,7 +28,7 @@ pub struct Mirror {
 
 impl Model for Mirror {
     ghost use Rattle.ax_tree.specs.Tree.{Tree};
-    ghost use Rattle.ax_mirror.specs.Kept.{Holds, shown};
+    ghost use Rattle.ax_mirror.specs.Kept.{HoldsTree, shown};
     ghost use Rattle.ax_mirror.specs.Mirrors.{coded_tree};
 
     ghost Value = { Tree };
@@ -37,7 +37,7 @@ impl Model for Mirror {
 
     ghost view = { λ s. record { about = s.about; trees = shown s.nodes s.root } };
 
-    ghost invariant = { λ s. Holds s.nodes s.root (shown s.nodes s.root) };
+    ghost invariant = { λ s. HoldsTree s.nodes s.root (shown s.nodes s.root) };
 }
 
 impl Mirror {

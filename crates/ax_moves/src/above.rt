@@ -14,7 +14,7 @@ use crate::names::{first_bound, listed, name_len};
 use ax_attrs::Key;
 use ax_base::{NoMemory, Place, Unit};
 use ax_node::{NodeData, Value};
-use ax_position::{Visitor, walk};
+use ax_position::{Visitor, Within, walk};
 use ax_stitch::root;
 use ax_tree::Grove;
 
@@ -99,7 +99,7 @@ impl Visitor for Above {
         _place: &Place,
         node: &NodeData,
         leaf: bool,
-        _within: bool,
+        _within: Within,
     ) -> Result<(), NoMemory> {
         if self.is_over() || !leaf {
             return Ok(());

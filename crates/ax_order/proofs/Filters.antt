@@ -1,12 +1,12 @@
 -- Those items of a list that pass a test, and what items give.
-use Rattle.std.proofs.Common.{ℕ, ◌≡◌, ◌+◌, ◌<◌, Bool, true, false, cond, ◌||◌, eqb, List, [], ◌∷◌, ◌++◌, length, drop, take, get_or, Option, Some, None, refl, sym, ap, ◌∙◌, arith, append_assoc}
+use Rattle.std.proofs.Common.{ℕ, ◌≡◌, ◌+◌, Bool, true, false, ◌||◌, eqb, List, [], ◌∷◌, ◌++◌, drop, Option, Some, None, refl, sym, ap, ◌∙◌, arith, append_assoc}
 use Rattle.std.specs.Prelude.{filter, filter_map}
 use Rattle.std.specs.List.{cons_option}
-use Rattle.std.proofs.lemmas.List.{drop_more, take_more}
 use Rattle.std.proofs.lemmas.Bool.Decides.{eqb_tells}
 use Rattle.std.proofs.lemmas.Bool.{eqb-true, false_from_ne_true, false≢true}
 use Rattle.ax_trees.specs.Lists.{contains, NoneTwice}
 use Rattle.ax_trees.proofs.Trees.{by_go}
+use Rattle.ax_trees.proofs.Lists.{drop_at, IsAt}
 
 pub filter_in : {X : Type 0} (p : X → Bool) (x : X) (xs : List X) → p x ≡ true → filter p (x ∷ xs) ≡ x ∷ filter p xs
 filter_in p x xs h = rw h refl
@@ -85,14 +85,6 @@ map_contains h (y ∷ ys) l c = go (h y) refl c (λ g. map_contains h ys l g)
 
 -- ---- a loop over the items
 
--- the item at an index
-pub record IsAt (xs : List ℕ) (i x : ℕ) : Type 0 where
-  pub low : i < length xs
-  pub item : x ≡ get_or xs i x
-
-pub drop_at : (xs : List ℕ) (i x : ℕ) → IsAt xs i x → drop i xs ≡ x ∷ drop (i + 1) xs
-drop_at xs i x a = drop_more xs i x a.low ∙ ap (λ y. y ∷ drop (i + 1) xs) (sym a.item)
-
 pub takes : (p : ℕ → Bool) (xs out next : List ℕ) (i x : ℕ) → IsAt xs i x → p x ≡ true → out ++ filter p (drop i xs) ≡ filter p xs → next ≡ out ++ x ∷ [] → next ++ filter p (drop (i + 1) xs) ≡ filter p xs
 takes p xs out next i x a h e n =
     let w : filter p (drop i xs) ≡ x ∷ filter p (drop (i + 1) xs) = ap (filter p) (drop_at xs i x a) ∙ filter_in p x (drop (i + 1) xs) h in
@@ -102,13 +94,3 @@ pub passes : (p : ℕ → Bool) (xs out : List ℕ) (i x : ℕ) → IsAt xs i x 
 passes p xs out i x a h e =
     let w : filter p (drop i xs) ≡ filter p (drop (i + 1) xs) = ap (filter p) (drop_at xs i x a) ∙ filter_out p x (drop (i + 1) xs) h in
     ap (λ ys. out ++ ys) (sym w) ∙ e
-
-pub take_at : (xs : List ℕ) (i x : ℕ) → IsAt xs i x → take (i + 1) xs ≡ take i xs ++ x ∷ []
-take_at xs i x a = take_more xs i x a.low ∙ ap (λ y. take i xs ++ y ∷ []) (sym a.item)
-
-pub contains_push : (xs : List ℕ) (x z : ℕ) → contains (xs ++ x ∷ []) z ≡ cond (eqb x z) true (contains xs z)
-contains_push [] x z = grind arith
-contains_push (y ∷ ys) x z = grind (arith, contains_push ys x z)
-
-pub contains_next : (xs : List ℕ) (i x z : ℕ) → IsAt xs i x → contains (take (i + 1) xs) z ≡ cond (eqb x z) true (contains (take i xs) z)
-contains_next xs i x z a = ap (λ ys. contains ys z) (take_at xs i x a) ∙ contains_push (take i xs) x z

@@ -7,9 +7,9 @@ use Rattle.std.proofs.lemmas.Bool.Decides.{eqb_tells}
 use Rattle.std.proofs.lemmas.Bool.{false_from_ne_true, false≢true, eqb-true}
 use Rattle.ax_trees.specs.Trees.{Trees, bare, tree, has, has_root, ids, roots, root_of, all_roots, IsDistinct, IsSingle, IsTree}
 use Rattle.ax_trees.specs.Nodes.{node_at, below, children, parent}
-use Rattle.ax_trees.specs.Lists.{contains, NoneTwice}
+use Rattle.ax_trees.specs.Lists.{contains}
 use Rattle.ax_trees.proofs.Trees.{by_go, root_in, contains_roots, distinct_below, is_root_has_root}
-use Rattle.ax_trees.proofs.Parents.{parent_of_child, child_of_parent, listed_children, node_children}
+use Rattle.ax_trees.proofs.Parents.{parent_of_child, child_of_parent, listed_children, node_children, roots_once}
 use Rattle.ax_views.proofs.Climbing.{parent_there, child_no_root}
 use Rattle.ax_views.proofs.Walking.{beside, roots-beside, ids-beside, has-beside, node_beside, distinct_beside, IsPart}
 use Rattle.ax_order.specs.declared.marks.Branches.{Branches}
@@ -36,7 +36,7 @@ module _ {X : Type 0} where
 
   -- ---- where no root passes, nothing does
 
-  upward_none : (p : ℕ → Bool) (f : Trees X) → Upward p false f → filter p (ids f) ≡ []
+  pub upward_none : (p : ℕ → Bool) (f : Trees X) → Upward p false f → filter p (ids f) ≡ []
   upward_none p bare u = refl
   upward_none p (tree i x k r) u =
       let no : p i ≡ false = false_from_ne_true (p i) (λ h. false≢true (u.0 h)) in
@@ -67,7 +67,7 @@ module _ {X : Type 0} where
   upward_beside p bare g u v = v
   upward_beside p (tree i x k r) g u v = (u.0, u.1, upward_beside p r g u.2 v)
 
-  upward_from : (p : ℕ → Bool) (up : Bool) (f : Trees X) → IsDistinct f → ((z y : ℕ) → p z ≡ true → parent f z ≡ Some y → p y ≡ true) → ((z : ℕ) → has_root f z ≡ true → p z ≡ true → up ≡ true) → Upward p up f
+  pub upward_from : (p : ℕ → Bool) (up : Bool) (f : Trees X) → IsDistinct f → ((z y : ℕ) → p z ≡ true → parent f z ≡ Some y → p y ≡ true) → ((z : ℕ) → has_root f z ≡ true → p z ≡ true → up ≡ true) → Upward p up f
   upward_from p up bare d h t = tt
   upward_from p up (tree i x k r) d h t = (
     (λ g. t i (grind (arith, eqb_tells i i)) g),
@@ -138,7 +138,7 @@ module _ {X : Type 0} where
   tops_beside p bare g h t = t
   tops_beside p (tree i x k r) g h t = let later : all_roots p (beside r g) ≡ true = tops_beside p r g (grind (arith, h)) t in grind (arith, h, later)
 
-  part_first : (i : ℕ) (x : X) (k r f : Trees X) → IsPart (tree i x k r) f → node_at f i ≡ Some (record { id = i; known = x; children = roots k })
+  pub part_first : (i : ℕ) (x : X) (k r f : Trees X) → IsPart (tree i x k r) f → node_at f i ≡ Some (record { id = i; known = x; children = roots k })
   part_first i x k r f p = let self : eqb i i ≡ true = grind (arith, eqb_tells i i) in sym (p.same i (grind (arith, self))) ∙ (rw self refl)
 
   -- after its first node, a walk has those trees below it whose roots pass, and the others
@@ -182,7 +182,7 @@ pub record MarksNext {X : Type 0} (p : ℕ → Bool) (f : Trees X) (out stack : 
   pub rest : out ++ filter p (ids (tree next known inner others)) ≡ filter p (ids f)
 
 module _ {X : Type 0} (f : Trees X) (m : ℕ → Option Branches) where
-  up_marked : IsMarking f m → (z y : ℕ) → is_marked m z ≡ true → parent f z ≡ Some y → is_marked m y ≡ true
+  pub up_marked : IsMarking f m → (z y : ℕ) → is_marked m z ≡ true → parent f z ≡ Some y → is_marked m y ≡ true
   up_marked i z y g e = some_of (m y) (i.up z y g e)
     where
       some_of : (o : Option Branches) → may_be o z ≡ true → is_some o ≡ true
@@ -266,10 +266,6 @@ module _ {X : Type 0} (p : ℕ → Bool) (f : Trees X) where
       go (tree i x k o) h r = absurd (cc)
 
 -- ---- the marked children of a node
-
-roots_once : {X : Type 0} (f : Trees X) → IsDistinct f → NoneTwice (roots f)
-roots_once bare d = tt
-roots_once (tree i x k r) d = (contains_roots r i ∙ false_from_ne_true (has_root r i) (λ g. false≢true (sym d.1 ∙ root_in r i g)), roots_once r d.4)
 
 module _ {X : Type 0} (f : Trees X) (m : ℕ → Option Branches) (id : ℕ) (d : IsDistinct f) (i : IsMarking f m) where
   may_child : (z : ℕ) → contains (children f id) z ≡ true → is_marked m z ≡ true → may_be (m id) z ≡ true

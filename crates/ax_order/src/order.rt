@@ -53,8 +53,8 @@ fn inside(alloc: Global, ids: &[NodeId], set: &HashSet<NodeId>) -> Result<Ids, N
     Ok(out)
 }
 
-/// Marks for the ids that stand in the tree.
-fn marks_of<T: TreeView>(alloc: Global, t: &T, ids: &[NodeId]) -> Result<Marks, NoMemory>
+/// Marks on those of the ids that stand in the tree, and on all ids above them. Costs the ids times their depth.
+pub fn marks_of<T: TreeView>(alloc: Global, t: &T, ids: &[NodeId]) -> Result<Marks, NoMemory>
     ensures marking { IfOk result (λ m. IsMarking (T.tree t.now).trees (get nat_eq m)) }
     ensures marked { IfOk result (λ m. (z : ℕ) → contains ids.now z ≡ true → has (T.tree t.now).trees z ≡ true → is_marked (get nat_eq m) z ≡ true) }
 {

@@ -19,7 +19,7 @@ use Rattle.ax_run_rules.specs.Steps.{run}
 use Rattle.ax_run_rules.specs.Taken.{Closed, order_taken}
 use Rattle.ax_run_laws.proofs.Found.{same_number}
 use Rattle.ax_run_laws.proofs.Held.{its_packets}
-use Rattle.ax_order_laws.specs.Parts.{op_in, browser_op_in, list_at, trees_in, journal_in, ops_or, ops_of, waiting_of, PacketsFit, IsClosed, Holds, frame_taken, state_taken, without_bundle, without_bundles}
+use Rattle.ax_order_laws.specs.Parts.{op_in, browser_op_in, list_at, trees_in, journal_in, ops_or, ops_of, waiting_of, FramePacketsFit, IsClosedHub, IsTakenFrom, frame_taken, state_taken, without_bundle, without_bundles}
 use Rattle.ax_order_laws.specs.Told.{is_entry, told_by, placed}
 use Rattle.ax_order_laws.specs.Laws.{EndsIn}
 use Rattle.ax_order_laws.proofs.Lists.{count}
@@ -77,7 +77,7 @@ same_state : (a b : List FrameRun) (os ps : List TimedOp) (rs qs : List (List Ti
 same_state a b os ps rs qs h g e1 e2 e3 e4 =
     ap (λ x. state_of_parts x os rs h) e1 ∙ (ap (λ x. state_of_parts b x rs h) e2 ∙ (ap (λ x. state_of_parts b ps x h) e3 ∙ ap (λ x. state_of_parts b ps qs x) e4))
 
-module _ (s : Script) (c : Closed) (waiting : List Packet) (looks : List (List ℕ)) (closed : IsClosed c waiting looks) (holds : Holds s c looks) where
+module _ (s : Script) (c : Closed) (waiting : List Packet) (looks : List (List ℕ)) (closed : IsClosedHub c waiting looks) (holds : IsTakenFrom s c looks) where
   once : NoneTwice (map (λ (f : FrameScript). f.tree) s.frames)
   once = subst NoneTwice (sym holds.trees) closed.trees
 
@@ -146,7 +146,7 @@ module _ (s : Script) (c : Closed) (waiting : List Packet) (looks : List (List �
   -- ---- its packets are good
 
   nothing_got : (t : ℕ) → contains (trees_in c) t ≡ false → got c.history t ≡ []
-  nothing_got t q = first_nil (got c.history t) (waiting_of waiting t) (subst (λ o. PacketsFit o (got c.history t ++ waiting_of waiting t)) (not_contained c waiting looks closed t c.frames q) (closed.packets t))
+  nothing_got t q = first_nil (got c.history t) (waiting_of waiting t) (subst (λ o. FramePacketsFit o (got c.history t ++ waiting_of waiting t)) (not_contained c waiting looks closed t c.frames q) (closed.packets t))
     where
       first_nil : (xs ys : List Packet) → xs ++ ys ≡ [] → xs ≡ []
       first_nil [] ys h = refl

@@ -21,7 +21,7 @@ use Rattle.ax_run_rules.proofs.Computing.{computing}
 use Rattle.ax_run_rules.proofs.ScriptWords.{asked, after, f, a, b, d, r}
 use Rattle.ax_run_rules.proofs.examples.StaleAfterAsk as stale
 use Rattle.ax_laws.proofs.GoodPackets.{packets_fit}
-use Rattle.ax_order_laws.specs.Parts.{op_in, browser_op_in, list_at, frame_in, journal_or, journal_in, ops_of, waiting_of, PacketsFit, RisesWithin, IsClosed, Holds, state_taken}
+use Rattle.ax_order_laws.specs.Parts.{op_in, browser_op_in, list_at, frame_in, journal_or, journal_in, ops_of, waiting_of, FramePacketsFit, RisesWithin, IsClosedHub, IsTakenFrom, state_taken}
 use Rattle.ax_order_laws.specs.Told.{told_by, placed}
 use Rattle.ax_order_laws.specs.Workers.{is_due_after, each_comes_in_time}
 use Rattle.ax_order_laws.specs.Laws.{parts_text}
@@ -87,22 +87,22 @@ its_history : OnlyOf 1 parts.history
 unfolding computing
 its_history = (refl, (refl, (refl, tt)))
 
-own_fit : PacketsFit (frame_in parts 1) (got parts.history 1 ++ [])
+own_fit : FramePacketsFit (frame_in parts 1) (got parts.history 1 ++ [])
 unfolding computing
 own_fit = record { fits = subst (Fits 1 (journal_in parts 1)) (sym its_packets) (packets_fit 1 (journal_in parts 1)); whole = refl }
 
-all_fit : (t : ℕ) → PacketsFit (frame_in parts t) (got parts.history t ++ waiting_of [] t)
+all_fit : (t : ℕ) → FramePacketsFit (frame_in parts t) (got parts.history t ++ waiting_of [] t)
 all_fit t =
     by_go (1 == t)
-    (λ e. subst (λ (u : ℕ). PacketsFit (frame_in parts u) (got parts.history u ++ [])) (eqb-true 1 t e) own_fit)
-    (λ e. subst (λ (o : Option ClosedFrame). PacketsFit o (got parts.history t ++ [])) (sym (no_other t e)) (ap (λ l. l ++ []) (none_of_others 1 t parts.history its_history e)))
+    (λ e. subst (λ (u : ℕ). FramePacketsFit (frame_in parts u) (got parts.history u ++ [])) (eqb-true 1 t e) own_fit)
+    (λ e. subst (λ (o : Option ClosedFrame). FramePacketsFit o (got parts.history t ++ [])) (sym (no_other t e)) (ap (λ l. l ++ []) (none_of_others 1 t parts.history its_history e)))
 
 looks_rise : (k : ℕ) → RisesWithin 0 (length parts.history) (list_at looks k)
 unfolding computing
 looks_rise zero = (omega arith, omega arith, (omega arith, omega arith, (omega arith, omega arith, tt)))
 looks_rise (suc k) = tt
 
-is_closed : IsClosed parts [] looks
+is_closed : IsClosedHub parts [] looks
 unfolding computing
 is_closed = record { trees = (refl, tt); packets = all_fit; rises = looks_rise }
 
@@ -127,7 +127,7 @@ its_browser : Begins (map (λ (o : TimedOp). o.op) script.browser) (flat_map bro
 unfolding computing
 its_browser = record { rest = []; joined = refl }
 
-script_holds : Holds script parts looks
+script_holds : IsTakenFrom script parts looks
 unfolding computing
 script_holds = record { trees = refl; ops = all_ops; browser = its_browser; queries = its_queries }
 

@@ -27,7 +27,7 @@ use Rattle.ax_run_rules.specs.FrameSteps.{entry_of}
 use Rattle.ax_run_rules.specs.Fair.{is_receipt, is_browser, is_reader, delivered_to, is_due, is_query_due, may_follow, each_follows, ready_count, all_ready_asked, token_given, all_delivered, IsFair}
 use Rattle.ax_run_rules.specs.Taken.{ClosedFrame, Closed, order_taken}
 use Rattle.ax_run_laws.proofs.Found.{same_number}
-use Rattle.ax_order_laws.specs.Parts.{browser_op_in, list_at, list_or, trees_in, frame_in, journal_in, journal_or, IsClosed, Holds}
+use Rattle.ax_order_laws.specs.Parts.{browser_op_in, list_at, list_or, trees_in, frame_in, journal_in, journal_or, IsClosedHub, IsTakenFrom}
 use Rattle.ax_order_laws.specs.Told.{is_entry, entry_lines}
 use Rattle.ax_order_laws.specs.Workers.{is_got, receipts_in, is_due_after, comes_in_time, each_comes_in_time, delivered, Worked}
 use Rattle.ax_order_laws.proofs.Lists.{take_next, get_some, get_within, count, count_hit, count_miss}
@@ -180,7 +180,7 @@ list_there : {X : Type 0} (xss : List (List X)) (k j : ℕ) (x : X) (o : Option 
 list_there xss k j x None e h = absurd (cc)
 list_there xss k j x (Some xs) e h = ap (option_and_then (λ ys. slice_get ys j)) e ∙ h
 
-module _ (s : Script) (c : Closed) (waiting : List Packet) (looks : List (List ℕ)) (closed : IsClosed c waiting looks) (holds : Holds s c looks) (worked : Worked s c looks) where
+module _ (s : Script) (c : Closed) (waiting : List Packet) (looks : List (List ℕ)) (closed : IsClosedHub c waiting looks) (holds : IsTakenFrom s c looks) (worked : Worked s c looks) where
   op_due : (b : List Item) (op : BrowserOp) → comes_in_time s.browser (front_of c looks b) (event_of op) ≡ is_due_after s.browser (front_of c looks b)
   op_due b (browsers.Ask t) = refl
   op_due b (browsers.Destroy t) = refl

@@ -9,7 +9,7 @@ use Rattle.ax_tree.specs.Journals.{packets_of}
 use Rattle.ax_tree.specs.Packets.{Head, head_of}
 use Rattle.ax_rules.specs.Histories.{got}
 use Rattle.ax_run_rules.specs.Taken.{Closed}
-use Rattle.ax_order_laws.specs.Parts.{journal_in, waiting_of, without_bundle, entry_without, IsClosed}
+use Rattle.ax_order_laws.specs.Parts.{journal_in, waiting_of, without_bundle, entry_without, IsClosedHub}
 use Rattle.ax_order_laws.proofs.Lists.{get_within, get_front, get_some}
 use Rattle.ax_order_laws.proofs.Cuts.{packets_front}
 use Rattle.ax_order_laws.proofs.Standing.{fits, ranked, pass_is}
@@ -53,7 +53,7 @@ head_there ps qs k p e h =
     let b : Some (head_of x.0) ≡ Some (head_of p) = ap (option_map head_of) (sym x.1) ∙ (a ∙ ap (option_map head_of) h) in
     (x.0, x.1, cc)
 
-module _ (c : Closed) (waiting : List Packet) (looks : List (List ℕ)) (closed : IsClosed c waiting looks) where
+module _ (c : Closed) (waiting : List Packet) (looks : List (List ℕ)) (closed : IsClosedHub c waiting looks) where
   -- a packet received is at its rank among those that the journal's passes make
   pub record Ranked (n : ℕ) (p : Packet) : Type 0 where
     pub there : slice_get (packets_of p.tree (journal_in c p.tree)) (length (got (take n c.history) p.tree)) ≡ Some (own c p)

@@ -5,7 +5,7 @@ use Rattle.ax_ask.specs.declared.op.Item.{Item}
 use Rattle.ax_ask.specs.declared.op.Item.TheVariants.{Reader}
 use Rattle.ax_run_rules.specs.Fair.{is_reader}
 use Rattle.ax_run_rules.specs.Taken.{Closed, order_taken}
-use Rattle.ax_order_laws.specs.Parts.{IsClosed}
+use Rattle.ax_order_laws.specs.Parts.{IsClosedHub}
 use Rattle.ax_order_laws.specs.Told.{is_entry}
 use Rattle.ax_order_laws.specs.Laws.{look_at}
 use Rattle.ax_order_laws.proofs.Lists.{count}
@@ -16,7 +16,7 @@ look_placed : (c : Closed) (looks : List (List ℕ)) (front : List Item) (k : �
 look_placed c looks front zero h = absurd h
 look_placed c looks front (suc k) h = h
 
-pub query_stands : (c : Closed) (waiting : List Packet) (looks : List (List ℕ)) → IsClosed c waiting looks → (front back : List Item) (k : ℕ) → order_taken c looks ≡ front ++ Reader k ∷ back
+pub query_stands : (c : Closed) (waiting : List Packet) (looks : List (List ℕ)) → IsClosedHub c waiting looks → (front back : List Item) (k : ℕ) → order_taken c looks ≡ front ++ Reader k ∷ back
     → look_at looks k (count (is_reader k) front) ≡ Some (count is_entry front)
 query_stands c waiting looks closed front back k e =
     look_placed c looks front k (placed_at c looks [] front (Reader k) back (subst (EachPlaced c looks []) e (order_done c waiting looks closed).placed))

@@ -22,7 +22,7 @@ use Rattle.ax_run_rules.specs.Taken.{ClosedFrame, Closed, journal_items, made_fr
 use Rattle.ax_rules.proofs.Appends.{got-append}
 use Rattle.ax_run_laws.proofs.Found.{same_number}
 use Rattle.ax_run_laws.proofs.Held.{got_own, got_other}
-use Rattle.ax_order_laws.specs.Parts.{runs_short, frame_in, journal_in, journal_or, list_at, waiting_of, PacketsFit, IsClosed}
+use Rattle.ax_order_laws.specs.Parts.{runs_short, frame_in, journal_in, journal_or, list_at, waiting_of, FramePacketsFit, IsClosedHub}
 use Rattle.ax_order_laws.specs.Told.{is_entry}
 use Rattle.ax_order_laws.proofs.Lists.{take_next, drop_next, get_next, rest_next, get_front, get_past, drop_split, length_split, count, count_both, count_hit, count_miss}
 use Rattle.ax_order_laws.proofs.Cuts.{cut_none, cut_within, cut_rises, cut_made, passes_are}
@@ -71,15 +71,15 @@ not_short (e ∷ a) b h =
 
 -- ---- the parts
 
-module _ (c : Closed) (waiting : List Packet) (looks : List (List ℕ)) (closed : IsClosed c waiting looks) where
-  pub whole_of : (o : Option ClosedFrame) (ps : List Packet) → PacketsFit o ps → list_any runs_short (journal_or o) ≡ false
+module _ (c : Closed) (waiting : List Packet) (looks : List (List ℕ)) (closed : IsClosedHub c waiting looks) where
+  pub whole_of : (o : Option ClosedFrame) (ps : List Packet) → FramePacketsFit o ps → list_any runs_short (journal_or o) ≡ false
   whole_of None ps h = refl
   whole_of (Some f) ps h = h.whole
 
   pub whole : (t : ℕ) → list_any runs_short (journal_in c t) ≡ false
   whole t = whole_of (frame_in c t) (got c.history t ++ waiting_of waiting t) (closed.packets t)
 
-  fits_of : (t : ℕ) (o : Option ClosedFrame) (ps : List Packet) → ((f : ClosedFrame) → o ≡ Some f → f.tree ≡ t) → PacketsFit o ps → Fits t (journal_or o) ps
+  fits_of : (t : ℕ) (o : Option ClosedFrame) (ps : List Packet) → ((f : ClosedFrame) → o ≡ Some f → f.tree ≡ t) → FramePacketsFit o ps → Fits t (journal_or o) ps
   fits_of t None ps tree h = subst (λ l. Fits t [] l) (sym h) (fits_new t)
   fits_of t (Some f) ps tree h = subst (λ u. Fits u f.journal ps) (tree f refl) h.fits
 

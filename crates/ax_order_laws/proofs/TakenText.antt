@@ -11,7 +11,7 @@ use Rattle.ax_run_rules.specs.LineText.{lines_text}
 use Rattle.ax_run_rules.specs.Dump.{dump_text}
 use Rattle.ax_run_rules.specs.ReplayText.{ended_text, replay_text}
 use Rattle.ax_run_rules.specs.Taken.{Closed, order_taken}
-use Rattle.ax_order_laws.specs.Parts.{IsClosed, Holds, run_without}
+use Rattle.ax_order_laws.specs.Parts.{IsClosedHub, IsTakenFrom, run_without}
 use Rattle.ax_order_laws.specs.Laws.{parts_run, parts_text}
 use Rattle.ax_order_laws.proofs.Ending.{walk, last_run, there, last_state}
 use Rattle.ax_order_laws.proofs.Bundles.{finale_respects, forest_same}
@@ -27,7 +27,7 @@ texts_same : (ls : List Line) (o : Option Run) → option_map (whole_text ls) (o
 texts_same ls None = refl
 texts_same ls (Some e) = ap Some (text_same ls e)
 
-module _ (s : Script) (c : Closed) (waiting : List Packet) (looks : List (List ℕ)) (closed : IsClosed c waiting looks) (holds : Holds s c looks) where
+module _ (s : Script) (c : Closed) (waiting : List Packet) (looks : List (List ℕ)) (closed : IsClosedHub c waiting looks) (holds : IsTakenFrom s c looks) where
   same_start : run_without (without_lines (last_run s c waiting looks closed holds)) ≡ run_without (parts_run s c waiting looks)
   same_start = ap (λ x. record { state = x; lines = [] }) (last_state s c waiting looks closed holds)
 

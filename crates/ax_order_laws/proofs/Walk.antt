@@ -35,7 +35,7 @@ use Rattle.ax_run_rules.specs.Fair.{is_reader, token_given}
 use Rattle.ax_run_rules.specs.Taken.{Closed}
 use Rattle.ax_run_laws.proofs.Found.{of_tree, same_number}
 use Rattle.ax_run_laws.proofs.Held.{got_other, sent_made}
-use Rattle.ax_order_laws.specs.Parts.{op_in, browser_op_in, list_at, list_or, trees_in, journal_or, journal_in, ops_of, IsClosed, Holds}
+use Rattle.ax_order_laws.specs.Parts.{op_in, browser_op_in, list_at, list_or, trees_in, journal_or, journal_in, ops_of, IsClosedHub, IsTakenFrom}
 use Rattle.ax_order_laws.specs.Told.{is_entry, entry_line, entry_lines, query_line, FrameTold, told_by, lines_or, line_at, placed}
 use Rattle.ax_order_laws.proofs.Lists.{take_next, drop_next, get_within, get_some, count, count_hit, count_miss, flat_next, next_left, next_mapped}
 use Rattle.ax_order_laws.proofs.Places.{in_frame, event_of, OpNext, PacketNext, Placed, EachPlaced}
@@ -93,7 +93,7 @@ same_run a b os ps rs qs h g ls ms e1 e2 e3 e4 e5 =
     ap (λ x. run_of_parts x os rs h ls) e1
     ∙ (ap (λ x. run_of_parts b x rs h ls) e2 ∙ (ap (λ x. run_of_parts b ps x h ls) e3 ∙ (ap (λ x. run_of_parts b ps qs x ls) e4 ∙ ap (λ x. run_of_parts b ps qs g x) e5)))
 
-module _ (s : Script) (c : Closed) (waiting : List Packet) (looks : List (List ℕ)) (closed : IsClosed c waiting looks) (holds : Holds s c looks) where
+module _ (s : Script) (c : Closed) (waiting : List Packet) (looks : List (List ℕ)) (closed : IsClosedHub c waiting looks) (holds : IsTakenFrom s c looks) where
   -- a frame where n entries of its journal and m of the history stand
   abbrev pub frame_by : ℕ → ℕ → ℕ → FrameRun
   frame_by t n m =

@@ -11,7 +11,7 @@ use Rattle.ax_ask.specs.declared.op.Item.{Item}
 use Rattle.ax_ask.specs.declared.op.Item.TheVariants.{Frame, Receive, Browser, Deliver, Reader}
 use Rattle.ax_run_rules.specs.Fair.{is_receipt}
 use Rattle.ax_run_rules.specs.Taken.{Closed, order_taken}
-use Rattle.ax_order_laws.specs.Parts.{op_in, journal_in, IsClosed}
+use Rattle.ax_order_laws.specs.Parts.{op_in, journal_in, IsClosedHub}
 use Rattle.ax_order_laws.specs.Told.{is_entry}
 use Rattle.ax_order_laws.specs.Workers.{is_got, delivered}
 use Rattle.ax_order_laws.specs.Laws.{StandsWhole}
@@ -62,7 +62,7 @@ module _ (c : Closed) (looks : List (List ℕ)) where
   shown_all [] b p s = subst Shown (sym (append-nil b)) s
   shown_all (i ∷ o) b p s = subst Shown (append_assoc b (i ∷ []) o) (shown_all o (b ++ i ∷ []) p.1 (shown_next b i p.0 s))
 
-pub stands_whole : (c : Closed) (waiting : List Packet) (looks : List (List ℕ)) → IsClosed c waiting looks → StandsWhole c looks (order_taken c looks)
+pub stands_whole : (c : Closed) (waiting : List Packet) (looks : List (List ℕ)) → IsClosedHub c waiting looks → StandsWhole c looks (order_taken c looks)
 stands_whole c waiting looks closed =
     let done = order_done c waiting looks closed in
     let kept = kept_all c looks (order_taken c looks) [] done.placed (kept_first c looks) in

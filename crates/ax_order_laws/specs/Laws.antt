@@ -16,7 +16,7 @@ use Rattle.ax_run_rules.specs.Steps.{run}
 use Rattle.ax_run_rules.specs.Finale.{finale_of}
 use Rattle.ax_run_rules.specs.Fair.{is_receipt, is_reader, delivered_to, is_due, each_follows, IsFair}
 use Rattle.ax_run_rules.specs.Taken.{Closed, order_taken}
-use Rattle.ax_order_laws.specs.Parts.{op_in, journal_in, list_at, IsClosed, Holds, state_taken, without_bundles, run_without}
+use Rattle.ax_order_laws.specs.Parts.{op_in, journal_in, list_at, IsClosedHub, IsTakenFrom, state_taken, without_bundles, run_without}
 use Rattle.ax_order_laws.specs.Told.{is_frame, is_entry, told_by, placed}
 use Rattle.ax_order_laws.specs.Workers.{is_got, is_due_after, each_comes_in_time, delivered, item_in, Worked}
 
@@ -28,7 +28,7 @@ pub record EndsIn (s : Script) (c : Closed) (waiting : List Packet) (looks : Lis
 -- Each item of the order taken is there in its turn, and the run ends in the state of the parts.
 abbrev pub OrderTakenIsThere : Type 0
 OrderTakenIsThere =
-    (s : Script) (c : Closed) (waiting : List Packet) (looks : List (List ℕ)) → IsClosed c waiting looks → Holds s c looks
+    (s : Script) (c : Closed) (waiting : List Packet) (looks : List (List ℕ)) → IsClosedHub c waiting looks → IsTakenFrom s c looks
     → (r : Run) × (run (order_taken c looks) (begin s) ≡ Some r) × EndsIn s c waiting looks r
 
 -- All stands in the order: each operation and each delivery of each journal, each entry of the history, receipts among the others, and each query that was asked.
@@ -39,7 +39,7 @@ pub record StandsWhole (c : Closed) (looks : List (List ℕ)) (o : List Item) : 
   pub queries : (k : ℕ) → length (filter (is_reader (suc k)) o) ≡ length (list_at looks k)
 
 abbrev pub OrderTakenIsWhole : Type 0
-OrderTakenIsWhole = (c : Closed) (waiting : List Packet) (looks : List (List ℕ)) → IsClosed c waiting looks → StandsWhole c looks (order_taken c looks)
+OrderTakenIsWhole = (c : Closed) (waiting : List Packet) (looks : List (List ℕ)) → IsClosedHub c waiting looks → StandsWhole c looks (order_taken c looks)
 
 -- the look at the place j of the reader of a number, from 1
 abbrev pub look_at : List (List ℕ) → ℕ → ℕ → Option ℕ
@@ -49,19 +49,19 @@ look_at looks (suc k) j = slice_get (list_at looks k) j
 -- Each query stands where just the entries that its snapshot counted stand before it.
 abbrev pub QueriesStandAtTheirLooks : Type 0
 QueriesStandAtTheirLooks =
-    (c : Closed) (waiting : List Packet) (looks : List (List ℕ)) (front back : List Item) (k : ℕ) → IsClosed c waiting looks → order_taken c looks ≡ front ++ Reader k ∷ back
+    (c : Closed) (waiting : List Packet) (looks : List (List ℕ)) (front back : List Item) (k : ℕ) → IsClosedHub c waiting looks → order_taken c looks ≡ front ++ Reader k ∷ back
     → look_at looks k (length (filter (is_reader k) front)) ≡ Some (length (filter is_entry front))
 
 -- The lines of that run are those of the calls, each in its place.
 abbrev pub LinesAreOfTheCalls : Type 0
 LinesAreOfTheCalls =
-    (s : Script) (c : Closed) (waiting : List Packet) (looks : List (List ℕ)) (r : Run) → IsClosed c waiting looks → Holds s c looks → run (order_taken c looks) (begin s) ≡ Some r
+    (s : Script) (c : Closed) (waiting : List Packet) (looks : List (List ℕ)) (r : Run) → IsClosedHub c waiting looks → IsTakenFrom s c looks → run (order_taken c looks) (begin s) ≡ Some r
     → placed (told_by s c looks) [] (order_taken c looks) ≡ Some r.lines
 
 -- Where the workers kept their clauses, the order is fair.
 abbrev pub OrderTakenIsFair : Type 0
 OrderTakenIsFair =
-    (s : Script) (c : Closed) (waiting : List Packet) (looks : List (List ℕ)) → IsClosed c waiting looks → Holds s c looks → Worked s c looks → IsFair s (order_taken c looks)
+    (s : Script) (c : Closed) (waiting : List Packet) (looks : List (List ℕ)) → IsClosedHub c waiting looks → IsTakenFrom s c looks → Worked s c looks → IsFair s (order_taken c looks)
 
 -- Bundles tell nothing: runs that are the same but for them go on the same, through each order and through the finale, and show the same forest.
 pub record GoOnTheSame (a b : Run) : Type 0 where
@@ -84,7 +84,7 @@ parts_text s c waiting looks =
 -- That is the text of the order taken.
 abbrev pub TextIsOfTheOrderTaken : Type 0
 TextIsOfTheOrderTaken =
-    (s : Script) (c : Closed) (waiting : List Packet) (looks : List (List ℕ)) → IsClosed c waiting looks → Holds s c looks
+    (s : Script) (c : Closed) (waiting : List Packet) (looks : List (List ℕ)) → IsClosedHub c waiting looks → IsTakenFrom s c looks
     → replay_text s (order_taken c looks) ≡ parts_text s c waiting looks
 
 -- A history is in time just where the order of its items alone is: so clauses on an order of receipts and operations give those on the history.

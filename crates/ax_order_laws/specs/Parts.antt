@@ -82,9 +82,9 @@ pub record FrameFits (f : ClosedFrame) (packets : List Packet) : Type 0 where
   pub fits : Fits f.tree f.journal packets
   pub whole : list_any runs_short f.journal ≡ false
 
-abbrev pub PacketsFit : Option ClosedFrame → List Packet → Type 0
-PacketsFit None packets = packets ≡ []
-PacketsFit (Some f) packets = FrameFits f packets
+abbrev pub FramePacketsFit : Option ClosedFrame → List Packet → Type 0
+FramePacketsFit None packets = packets ≡ []
+FramePacketsFit (Some f) packets = FrameFits f packets
 
 -- the numbers don't fall, and none is below `low` or above `high`
 abbrev pub RisesWithin : ℕ → ℕ → List ℕ → Type 0
@@ -92,13 +92,13 @@ RisesWithin low high [] = Unit {0}
 RisesWithin low high (n ∷ ns) = (low ≤ n) × (n ≤ high) × RisesWithin n high ns
 
 -- the trees differ; the packets received and then those that wait fit the journals; each reader's looks go on, within the history
-pub record IsClosed (c : Closed) (waiting : List Packet) (looks : List (List ℕ)) : Type 0 where
+pub record IsClosedHub (c : Closed) (waiting : List Packet) (looks : List (List ℕ)) : Type 0 where
   pub trees : NoneTwice (trees_in c)
-  pub packets : (t : ℕ) → PacketsFit (frame_in c t) (got c.history t ++ waiting_of waiting t)
+  pub packets : (t : ℕ) → FramePacketsFit (frame_in c t) (got c.history t ++ waiting_of waiting t)
   pub rises : (k : ℕ) → RisesWithin 0 (length c.history) (list_at looks k)
 
 -- the script has these trees, its lists begin with what the journals and the history hold, and each reader has as many queries as looks
-pub record Holds (s : Script) (c : Closed) (looks : List (List ℕ)) : Type 0 where
+pub record IsTakenFrom (s : Script) (c : Closed) (looks : List (List ℕ)) : Type 0 where
   pub trees : map (λ (f : FrameScript). f.tree) s.frames ≡ trees_in c
   pub ops : (t : ℕ) → Begins (ops_of s t) (flat_map op_in (journal_in c t))
   pub browser : Begins (map (λ (o : TimedOp). o.op) s.browser) (flat_map browser_op_in c.history)

@@ -54,12 +54,12 @@ pub record FrameTold : Type 0 where
   pub tree : ℕ
   pub lines : List Line
 
-pub record Told : Type 0 where
+pub record LinesTold : Type 0 where
   pub frames : List FrameTold
   pub entries : List Line
   pub readers : List (List Line)
 
-unfoldable pub told_by : Script → Closed → List (List ℕ) → Told
+unfoldable pub told_by : Script → Closed → List (List ℕ) → LinesTold
 told_by s c looks = record {
   frames = map (λ (f : ClosedFrame). record { tree = f.tree; lines = op_lines f.tree [] f.journal }) c.frames;
   entries = entry_lines [] c.history;
@@ -81,12 +81,12 @@ is_entry Browser = true
 is_entry i = false
 
 -- the lines of a reader's queries, by its number, from 1
-abbrev pub reader_lines : Told → ℕ → List Line
+abbrev pub reader_lines : LinesTold → ℕ → List Line
 reader_lines l zero = []
 reader_lines l (suc k) = list_at l.readers k
 
 -- the line of an item after the items before it: the next one of its list; a delivery's is its own
-abbrev pub line_at : Told → List Item → Item → Option Line
+abbrev pub line_at : LinesTold → List Item → Item → Option Line
 line_at l before (Frame t) = slice_get (lines_or (find (λ (f : FrameTold). f.tree == t) l.frames)) (length (filter (is_frame t) before))
 line_at l before (Receive t) = slice_get l.entries (length (filter is_entry before))
 line_at l before Browser = slice_get l.entries (length (filter is_entry before))
@@ -94,6 +94,6 @@ line_at l before (Deliver t n) = Some (lines.Delivered t n)
 line_at l before (Reader k) = slice_get (reader_lines l k) (length (filter (is_reader k) before))
 
 -- the lines of an order's items after the items before it, where none is missing
-abbrev pub placed : Told → List Item → List Item → Option (List Line)
+abbrev pub placed : LinesTold → List Item → List Item → Option (List Line)
 placed l before [] = Some []
 placed l before (i ∷ o) = option_and_then (λ (x : Line). option_map (λ (xs : List Line). x ∷ xs) (placed l (before ++ i ∷ []) o)) (line_at l before i)

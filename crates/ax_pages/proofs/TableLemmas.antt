@@ -79,7 +79,7 @@ module _ {X Z : Type 0} where
       go true w ih = let v : eqb e.0 p ≡ true = eq-eqb e.0 p (sym (eqb-true p e.0 w)) in rw v (sym (ap is_some (rw w at h)))
       go false w ih = let v : eqb e.0 p ≡ false = grind (arith, eqb_tells p e.0, eqb_tells e.0 p) in rw v (ih o (rw w at h))
 
-none_anyway : {X : Type 0} (b : Bool) → ◌≡◌ {A = Option X} (cond b None None) None
+pub none_anyway : {X : Type 0} (b : Bool) → ◌≡◌ {A = Option X} (cond b None None) None
 none_anyway true = refl
 none_anyway false = refl
 

@@ -1,3 +1,4 @@
+//! The table of pages.
 ghost use Rattle.std.specs.Prelude.{◌≡◌, ◌≢◌, ◌≤◌, ◌<◌, ◌+◌, ◌*◌, ◌/◌, ◌%◌, ℕ, IfOk, OnOk, OnErr, IsSome, option_map, nat_eq, true, false, if◌then◌else◌, Some, None};
 ghost use Rattle.std.specs.Option.{option_copied, ForSome};
 ghost use Rattle.std.specs.Arc.{arc_value};

@@ -96,7 +96,7 @@ form_at f p o Down s h e = form_down f p (capped (start_of (stitched f) p + o)) 
 form_at f p o Up s h e = form_up f p (capped (start_of (stitched f) p + o)) s h (omega (arith, e))
 
 -- a mark stands at a place of the list, at an offset of its text
-pub record Stands (f : Forest) (m : Mark) : Type 0 where
+pub record MarkStands (f : Forest) (m : Mark) : Type 0 where
   pub there : has_place (stitched f) m.place ≡ true
   pub within : m.offset ≤ text_len (stitched f) m.place
 
@@ -123,7 +123,7 @@ first_text f p (suc c) s h n =
     let all = ap (λ v. length (joined v)) (both_filters (is_leaf l) (is_within p) l) in
     omega (arith, part, less, all)
 
-pub child_stands : (f : Forest) (p : Place) (c : ℕ) (m : Mark) → IsSound f → has_place (stitched f) p ≡ true → child_mark (stitched f) p c ≡ Ok m → Stands f m
+pub child_stands : (f : Forest) (p : Place) (c : ℕ) (m : Mark) → IsSound f → has_place (stitched f) p ≡ true → child_mark (stitched f) p c ≡ Ok m → MarkStands f m
 unfolding child_mark
 child_stands f p c m s h e =
     let l = stitched f in
@@ -138,7 +138,7 @@ child_stands f p c m s h e =
       within = let a = ap (λ (v : Mark). v.offset) same in let b = ap (λ (v : Mark). text_len l v.place) same in omega (arith, within, a, b);
     })
 
-text_stands : (f : Forest) (p : Place) (o : ℕ) (a : Affinity) (m : Mark) → has_place (stitched f) p ≡ true → text_mark (stitched f) p o a ≡ Ok m → Stands f m
+text_stands : (f : Forest) (p : Place) (o : ℕ) (a : Affinity) (m : Mark) → has_place (stitched f) p ≡ true → text_mark (stitched f) p o a ≡ Ok m → MarkStands f m
 unfolding text_mark
 text_stands f p o a m h e =
     let l = stitched f in
@@ -152,7 +152,7 @@ text_stands f p o a m h e =
       within = let a = ap (λ (v : Mark). v.offset) same in let b = ap (λ (v : Mark). text_len l v.place) same in omega (arith, within, a, b);
     })
 
-in_stands : (f : Forest) (p : Place) (m : Mark) (r : Result Mark PosErr) → (has_place (stitched f) p ≡ true → r ≡ Ok m → Stands f m) → mark_in f (stitched f) p r ≡ Ok m → Stands f m
+in_stands : (f : Forest) (p : Place) (m : Mark) (r : Result Mark PosErr) → (has_place (stitched f) p ≡ true → r ≡ Ok m → MarkStands f m) → mark_in f (stitched f) p r ≡ Ok m → MarkStands f m
 unfolding mark_in
 in_stands f p m r go h = by_go (is_live f p.tree)
     (λ q. by_go (has_place (stitched f) p)
@@ -160,7 +160,7 @@ in_stands f p m r go h = by_go (is_live f p.tree)
     (λ s. absurd (let e : ◌≡◌ {A = Result Mark PosErr} (Err NoNode) (Ok m) = rw (q, s) at h in cc)))
     (λ q. absurd (let e : ◌≡◌ {A = Result Mark PosErr} (Err NoTree) (Ok m) = rw q at h in cc))
 
-pub checked_stands : (f : Forest) (x : Pos) (m : Mark) → IsSound f → checked f x ≡ Ok m → Stands f m
+pub checked_stands : (f : Forest) (x : Pos) (m : Mark) → IsSound f → checked f x ≡ Ok m → MarkStands f m
 unfolding checked
 checked_stands f Null m s h = absurd (cc)
 checked_stands f (Tree t z c) m s h = in_stands f (place_at t z) m (child_mark (stitched f) (place_at t z) c) (child_stands f (place_at t z) c m s) h

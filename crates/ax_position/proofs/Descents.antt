@@ -1,28 +1,29 @@
 -- The rows of a node, of its children and of what hangs at it.
-use Rattle.std.proofs.Common.{ℕ, zero, suc, ◌+◌, ◌-◌, ◌*◌, ◌<◌, ◌≤◌, ◌≡◌, Bool, true, false, ◌||◌, ◌&&◌, eqb, List, [], ◌∷◌, ◌++◌, flat_map, length, take, drop, get_or, Bor, Option, Some, None, refl, sym, ap, ◌∙◌, arith, append_assoc, append-nil, option_map, option_and_then}
+use Rattle.std.proofs.Common.{ℕ, zero, suc, ◌+◌, ◌-◌, ◌*◌, ◌<◌, ◌≤◌, ◌≡◌, Bool, true, false, ◌&&◌, eqb, List, [], ◌∷◌, ◌++◌, flat_map, length, take, drop, get_or, Bor, Option, Some, None, refl, sym, ap, ◌∙◌, arith, append_assoc, append-nil, option_map, option_and_then}
 use Rattle.std.specs.Prelude.{is_some, not}
 use Rattle.std.specs.Option.{option_copied}
 use Rattle.std.proofs.lemmas.List.{take_more, take_all, take-append-drop}
 use Rattle.std.proofs.lemmas.List.Concat.{flat_map-append}
 use Rattle.std.proofs.lemmas.Bool.Decides.{eqb_tells}
-use Rattle.std.proofs.lemmas.Bool.{false≢true, false_from_ne_true}
 use Rattle.ax_base.specs.declared.position.Place.{Place}
-use Rattle.ax_node.specs.Look.{Look, look_of, blank_look}
+use Rattle.ax_node.specs.Look.{Look, look_of}
 use Rattle.ax_node.specs.declared.node.NodeData.{NodeData}
-use Rattle.ax_trees.specs.Trees.{Trees, bare, tree, has, has_root, roots, root_of, height, is_bare, IsDistinct, IsSingle, IsTree}
+use Rattle.ax_trees.specs.Trees.{Trees, bare, tree, has, has_root, roots, root_of, height, is_bare, IsDistinct, IsTree}
 use Rattle.ax_trees.specs.Nodes.{below, children, tree_at}
 use Rattle.ax_trees.specs.Lists.{is_nil}
-use Rattle.ax_trees.proofs.Trees.{root_in, below_in, distinct_below}
-use Rattle.ax_trees.proofs.Nodes.{tree_at_is, tree_at_child, tree_at_root}
+use Rattle.ax_trees.proofs.Trees.{root_in, below_in}
+use Rattle.ax_trees.proofs.Nodes.{tree_at_is}
 use Rattle.ax_tree.specs.Tree.{Tree, node, data_of}
 use Rattle.ax_tree.specs.Forest.{Forest, IsSound, live_tree, hosted_by}
-use Rattle.ax_rules.specs.Looks.{same_place}
 use Rattle.ax_rules.specs.Stitched.{place_at}
 use Rattle.ax_rules.specs.StitchedTree.{PlacedLook, beside, joined_in, joined_of, joined_at, joined_from}
 use Rattle.ax_views.proofs.Walking.{height_is, heights_at, children_from}
 use Rattle.ax_stitch.specs.Levels.{hung_root, root_at}
+use Rattle.ax_stitch.proofs.Parts.{child_parts, whole_tree}
 use Rattle.ax_place_laws.specs.Lists.{hung_tree}
-use Rattle.ax_position.specs.Walks.{Row, row, folded, tree_rows, node_rows, IsSettled}
+use Rattle.ax_position.specs.declared.targets.Targets.{Targets}
+use Rattle.ax_position.specs.declared.targets.Within.{Within}
+use Rattle.ax_position.specs.Walks.{Row, row_of, folded, tree_rows, node_rows, within_of, IsSettled}
 
 -- ---- lists
 
@@ -35,33 +36,9 @@ pub folded_settled : {S : Type 0} (seen : S → Row → S) (s : S) (rs : List Ro
 folded_settled seen s [] h = refl
 folded_settled seen s (r ∷ rs) h = ap (λ v. folded seen v rs) (h.stays r) ∙ folded_settled seen s rs h
 
--- the trees at the roots, one after the other
-parts : {A : Type 0} (r : Trees Look → List A) → r bare ≡ [] → ((i : ℕ) (x : Look) (a b : Trees Look) → r (tree i x a b) ≡ r (tree i x a bare) ++ r b) → (w u : Trees Look) → IsDistinct u
-    → ((c : ℕ) → has_root u c ≡ true → tree_at w c ≡ tree_at u c) → flat_map (λ c. r (tree_at w c)) (roots u) ≡ r u
-parts r e s w bare d h = sym e
-parts r e s w (tree i x k b) d h =
-    let self : eqb i i ≡ true = grind (arith, eqb_tells i i) in
-    let head : tree_at w i ≡ tree i x k bare = h i (grind (arith, self)) ∙ (rw self refl) in
-    let rest = parts r e s w b d.4 (λ c t. h c (grind (arith, t)) ∙ later c t) in
-    ap (λ v. r v ++ flat_map (λ c. r (tree_at w c)) (roots b)) head ∙ (ap (λ l. r (tree i x k bare) ++ l) rest ∙ sym (s i x k b))
-  where
-    later : (c : ℕ) → has_root b c ≡ true → tree_at (tree i x k b) c ≡ tree_at b c
-    later c t =
-        let there : has b c ≡ true = root_in b c t in
-        let no : eqb i c ≡ false = false_from_ne_true (eqb i c) (λ q. grind (arith, q, eqb_tells i c, there, d.1)) in
-        let none : has k c ≡ false = false_from_ne_true (has k c) (λ q. false≢true (sym (d.2.apart c q) ∙ there)) in
-        rw (no, none) refl
-
--- the trees at the children of z
-child_parts : {A : Type 0} (r : Trees Look → List A) → r bare ≡ [] → ((i : ℕ) (x : Look) (a b : Trees Look) → r (tree i x a b) ≡ r (tree i x a bare) ++ r b) → (w : Trees Look) (z : ℕ) → IsDistinct w
-    → flat_map (λ c. r (tree_at w c)) (children w z) ≡ r (below w z)
-child_parts r e s w z d =
-    parts r e s w (below w z) (distinct_below w z d)
-    (λ c t. tree_at_child blank_look w z c d t ∙ sym (tree_at_root blank_look (below w z) c (distinct_below w z d) t))
-
 -- ---- the rows of a node
 
-rows-beside : (p : Place) (v : Bool) (a b : Trees PlacedLook) → tree_rows p v (beside a b) ≡ tree_rows p v a ++ tree_rows p v b
+rows-beside : (p : Targets) (v : Within) (a b : Trees PlacedLook) → tree_rows p v (beside a b) ≡ tree_rows p v a ++ tree_rows p v b
 rows-beside p v bare b = refl
 rows-beside p v (tree i x k r) b =
     let rest = rows-beside p v r b in
@@ -75,7 +52,7 @@ bare-joined : (h : Place → Trees PlacedLook) (t : ℕ) (u : Trees Look) → is
 bare-joined h t bare = refl
 bare-joined h t (tree i x k r) = refl
 
-rows_split : (h : Place → Trees PlacedLook) (p : Place) (v : Bool) (t i : ℕ) (x : Look) (a b : Trees Look)
+rows_split : (h : Place → Trees PlacedLook) (p : Targets) (v : Within) (t i : ℕ) (x : Look) (a b : Trees Look)
     → tree_rows p v (joined_in h t (tree i x a b)) ≡ tree_rows p v (joined_in h t (tree i x a bare)) ++ tree_rows p v (joined_in h t b)
 rows_split h p v t i x a b = simp append-nil
 
@@ -92,21 +69,21 @@ look_there m z d h e =
     let same : d ≡ data_of (record { id = z; known = a.0; children = roots (below m.trees z) }) = cc in
     record { known = a.0; tree_is = a.1; look = ap look_of same }
 
-pub node_rows_are : (n : ℕ) (f : Forest) (p : Place) (a : Bool) (t : ℕ) (m : Tree) (z : ℕ) (d : NodeData) → IsDistinct m.trees → has m.trees z ≡ true → node m z ≡ Some d
+pub node_rows_are : (n : ℕ) (f : Forest) (p : Targets) (a : Within) (t : ℕ) (m : Tree) (z : ℕ) (d : NodeData) → IsDistinct m.trees → has m.trees z ≡ true → node m z ≡ Some d
     → node_rows n f p a t m.trees z
-    ≡ row (place_at t z) (look_of d) (is_nil (children m.trees z) && is_bare (hung_tree n f (place_at t z))) (same_place p (place_at t z) || a)
-    ∷ (flat_map (node_rows n f p (same_place p (place_at t z) || a) t m.trees) (children m.trees z) ++ tree_rows p (same_place p (place_at t z) || a) (hung_tree n f (place_at t z)))
+    ≡ row_of (place_at t z) (look_of d) (is_nil (children m.trees z) && is_bare (hung_tree n f (place_at t z))) (within_of p (place_at t z) a)
+    ∷ (flat_map (node_rows n f p (within_of p (place_at t z) a) t m.trees) (children m.trees z) ++ tree_rows p (within_of p (place_at t z) a) (hung_tree n f (place_at t z)))
 node_rows_are n f p a t m z d w h e =
     let l = look_there m z d h e in
     let q = place_at t z in
-    let v = same_place p q || a in
+    let v = within_of p q a in
     let u = below m.trees z in
     let g = hung_tree n f in
     ap (λ b. tree_rows p a (joined_in g t b)) l.tree_is
-    ∙ (ap (λ xs. row q l.known (is_bare (beside (joined_in g t u) (g q))) v ∷ xs) (append-nil (tree_rows p v (beside (joined_in g t u) (g q))) ∙ rows-beside p v (joined_in g t u) (g q))
-    ∙ (ap (λ b. row q l.known b v ∷ (tree_rows p v (joined_in g t u) ++ tree_rows p v (g q))) (bare-beside (joined_in g t u) (g q) ∙ ap (λ b. b && is_bare (g q)) (bare-joined g t u))
-    ∙ (ap (λ x. row q x (is_nil (roots u) && is_bare (g q)) v ∷ (tree_rows p v (joined_in g t u) ++ tree_rows p v (g q))) (sym l.look)
-    ∙ ap (λ xs. row q (look_of d) (is_nil (roots u) && is_bare (g q)) v ∷ (xs ++ tree_rows p v (g q))) (sym (child_parts (λ b. tree_rows p v (joined_in g t b)) refl (rows_split g p v t) m.trees z w)))))
+    ∙ (ap (λ xs. row_of q l.known (is_bare (beside (joined_in g t u) (g q))) v ∷ xs) (append-nil (tree_rows p v (beside (joined_in g t u) (g q))) ∙ rows-beside p v (joined_in g t u) (g q))
+    ∙ (ap (λ b. row_of q l.known b v ∷ (tree_rows p v (joined_in g t u) ++ tree_rows p v (g q))) (bare-beside (joined_in g t u) (g q) ∙ ap (λ b. b && is_bare (g q)) (bare-joined g t u))
+    ∙ (ap (λ x. row_of q x (is_nil (roots u) && is_bare (g q)) v ∷ (tree_rows p v (joined_in g t u) ++ tree_rows p v (g q))) (sym l.look)
+    ∙ ap (λ xs. row_of q (look_of d) (is_nil (roots u) && is_bare (g q)) v ∷ (xs ++ tree_rows p v (g q))) (sym (child_parts (λ b. tree_rows p v (joined_in g t b)) refl (rows_split g p v t) m.trees z w)))))
 
 -- ---- what hangs at a place
 
@@ -137,14 +114,7 @@ hangs (suc n) f q r h = go (hosted_by f q) refl h
     go None e k = absurd (cc)
     go (Some c) e k = live c e (live_tree f c) refl k
 
-pub whole_tree : {X : Type 0} (w : Trees X) (r : ℕ) → IsSingle w → root_of w ≡ Some r → tree_at w r ≡ w
-whole_tree bare r s e = absurd (cc)
-whole_tree (tree i x k b) r s e =
-    let same : i ≡ r = cc in
-    let q : eqb i r ≡ true = grind (arith, eqb_tells i r, same) in
-    rw q (ap (tree i x k) (sym s))
-
-pub hung_rows : (n : ℕ) (f : Forest) (p q r : Place) (v : Bool) (m : Tree) (h : Hangs n f q r m) → IsTree m.trees → tree_rows p v (hung_tree n f q) ≡ node_rows h.rest f p v r.tree m.trees r.node
+pub hung_rows : (n : ℕ) (f : Forest) (p : Targets) (q r : Place) (v : Within) (m : Tree) (h : Hangs n f q r m) → IsTree m.trees → tree_rows p v (hung_tree n f q) ≡ node_rows h.rest f p v r.tree m.trees r.node
 hung_rows n f p q r v m h w =
     ap (λ k. tree_rows p v (hung_tree k f q)) h.levels
     ∙ (ap (λ o. tree_rows p v (joined_at (joined_from (suc h.rest) f) o)) h.hosted
@@ -216,12 +186,12 @@ walked_more seen r from now later xs i c l g h k =
     k ∙ (ap (λ s. folded seen s (r c)) h ∙ (sym (folded-append seen from (flat_map r (take i xs)) (r c)) ∙ ap (folded seen from) (sym (flat_more r xs i c l g))))
 
 -- the place, and its children
-pub record Walked {S : Type 0} (seen : S → Row → S) (n : ℕ) (f : Forest) (p : Place) (a : Bool) (t : ℕ) (m : Tree) (z : ℕ) (from to : S) : Type 0 where
-  pub rows : folded seen from (node_rows n f p a t m.trees z) ≡ folded seen to (tree_rows p (same_place p (place_at t z) || a) (hung_tree n f (place_at t z)))
+pub record Walked {S : Type 0} (seen : S → Row → S) (n : ℕ) (f : Forest) (p : Targets) (a : Within) (t : ℕ) (m : Tree) (z : ℕ) (from to : S) : Type 0 where
+  pub rows : folded seen from (node_rows n f p a t m.trees z) ≡ folded seen to (tree_rows p (within_of p (place_at t z) a) (hung_tree n f (place_at t z)))
 
-pub walked : {S : Type 0} (seen : S → Row → S) (n : ℕ) (f : Forest) (p : Place) (a : Bool) (t : ℕ) (m : Tree) (z : ℕ) (d : NodeData) (xs : List ℕ) (i : ℕ) (root : Option Place) (leaf within : Bool) (from next to : S)
-    → IsDistinct m.trees → has m.trees z ≡ true → Some d ≡ node m z → xs ≡ d.children → root ≡ hung_root n f (place_at t z) → leaf ≡ (is_nil xs && not (is_some root)) → within ≡ (same_place p (place_at t z) || a)
-    → next ≡ seen from (row (place_at t z) (look_of d) leaf within) → length xs ≤ i → to ≡ folded seen next (flat_map (node_rows n f p within t m.trees) (take i xs))
+pub walked : {S : Type 0} (seen : S → Row → S) (n : ℕ) (f : Forest) (p : Targets) (a : Within) (t : ℕ) (m : Tree) (z : ℕ) (d : NodeData) (xs : List ℕ) (i : ℕ) (root : Option Place) (leaf : Bool) (within : Within) (from next to : S)
+    → IsDistinct m.trees → has m.trees z ≡ true → Some d ≡ node m z → xs ≡ d.children → root ≡ hung_root n f (place_at t z) → leaf ≡ (is_nil xs && not (is_some root)) → within ≡ (within_of p (place_at t z) a)
+    → next ≡ seen from (row_of (place_at t z) (look_of d) leaf within) → length xs ≤ i → to ≡ folded seen next (flat_map (node_rows n f p within t m.trees) (take i xs))
     → Walked seen n f p a t m z from to
 walked seen n f p a t m z d xs i root leaf within from next to w h e x o l v s stop g =
     let q = place_at t z in
@@ -232,19 +202,19 @@ walked seen n f p a t m z d xs i root leaf within from next to w h e x o l v s s
     record {
       rows =
           ap (folded seen from) (node_rows_are n f p a t m z d w h (sym e))
-          ∙ (folded-append seen (seen from (row q (look_of d) (is_nil (children m.trees z) && is_bare (hung_tree n f q)) (same_place p q || a))) (flat_map (node_rows n f p (same_place p q || a) t m.trees) (children m.trees z))
-          (tree_rows p (same_place p q || a) (hung_tree n f q))
-          ∙ ap (λ u. folded seen u (tree_rows p (same_place p q || a) (hung_tree n f q)))
-          (ap (λ b. folded seen (seen from (row q (look_of d) b (same_place p q || a))) (flat_map (node_rows n f p (same_place p q || a) t m.trees) (children m.trees z))) (sym leaf_is)
-          ∙ (ap (λ b. folded seen (seen from (row q (look_of d) leaf b)) (flat_map (node_rows n f p b t m.trees) (children m.trees z))) (sym v)
+          ∙ (folded-append seen (seen from (row_of q (look_of d) (is_nil (children m.trees z) && is_bare (hung_tree n f q)) (within_of p q a))) (flat_map (node_rows n f p (within_of p q a) t m.trees) (children m.trees z))
+          (tree_rows p (within_of p q a) (hung_tree n f q))
+          ∙ ap (λ u. folded seen u (tree_rows p (within_of p q a) (hung_tree n f q)))
+          (ap (λ b. folded seen (seen from (row_of q (look_of d) b (within_of p q a))) (flat_map (node_rows n f p (within_of p q a) t m.trees) (children m.trees z))) (sym leaf_is)
+          ∙ (ap (λ b. folded seen (seen from (row_of q (look_of d) leaf b)) (flat_map (node_rows n f p b t m.trees) (children m.trees z))) (sym v)
           ∙ (ap (λ u. folded seen u (flat_map (node_rows n f p within t m.trees) (children m.trees z))) (sym s)
           ∙ (ap (λ ys. folded seen next (flat_map (node_rows n f p within t m.trees) ys)) (sym all) ∙ sym g)))));
     }
 
-pub walked_lone : {S : Type 0} (seen : S → Row → S) (n : ℕ) (f : Forest) (p : Place) (a : Bool) (t : ℕ) (m : Tree) (z : ℕ) (from to : S)
+pub walked_lone : {S : Type 0} (seen : S → Row → S) (n : ℕ) (f : Forest) (p : Targets) (a : Within) (t : ℕ) (m : Tree) (z : ℕ) (from to : S)
     → Walked seen n f p a t m z from to → None ≡ hung_root n f (place_at t z) → to ≡ folded seen from (node_rows n f p a t m.trees z)
 walked_lone seen n f p a t m z from to w e =
-    sym (w.rows ∙ ap (λ u. folded seen to (tree_rows p (same_place p (place_at t z) || a) u)) (hung_none n f (place_at t z) (sym e)))
+    sym (w.rows ∙ ap (λ u. folded seen to (tree_rows p (within_of p (place_at t z) a) u)) (hung_none n f (place_at t z) (sym e)))
 
 pub top_there : {X : Type 0} (w : Trees X) (r : ℕ) → root_of w ≡ Some r → has w r ≡ true
 top_there bare r k = absurd (cc)
@@ -257,7 +227,7 @@ pub record Hung (n : ℕ) (f : Forest) (q r : Place) (m : Tree) : Type 0 where
   pub live : live_tree f r.tree ≡ Some m
   pub formed : IsTree m.trees
   pub there : has m.trees r.node ≡ true
-  pub rows : (p : Place) (v : Bool) → tree_rows p v (hung_tree n f q) ≡ node_rows rest f p v r.tree m.trees r.node
+  pub rows : (p : Targets) (v : Within) → tree_rows p v (hung_tree n f q) ≡ node_rows rest f p v r.tree m.trees r.node
 
 pub hung_there : (n : ℕ) (f : Forest) (q r : Place) → IsSound f → hung_root n f q ≡ Some r → (m : Tree) × Hung n f q r m
 hung_there n f q r w e =
@@ -276,8 +246,8 @@ hung_there n f q r w e =
       },
     )
 
-pub walked_hung : {S : Type 0} (seen : S → Row → S) (n : ℕ) (f : Forest) (p : Place) (a within : Bool) (t : ℕ) (m : Tree) (z k : ℕ) (r : Place) (b : Tree) (from to end : S)
-    → Walked seen n f p a t m z from to → within ≡ (same_place p (place_at t z) || a) → IsSound f → Some r ≡ hung_root n f (place_at t z) → Some b ≡ live_tree f r.tree → k ≡ n - 1
+pub walked_hung : {S : Type 0} (seen : S → Row → S) (n : ℕ) (f : Forest) (p : Targets) (a within : Within) (t : ℕ) (m : Tree) (z k : ℕ) (r : Place) (b : Tree) (from to end : S)
+    → Walked seen n f p a t m z from to → within ≡ (within_of p (place_at t z) a) → IsSound f → Some r ≡ hung_root n f (place_at t z) → Some b ≡ live_tree f r.tree → k ≡ n - 1
     → end ≡ folded seen to (node_rows k f p within r.tree b.trees r.node) → end ≡ folded seen from (node_rows n f p a t m.trees z)
 walked_hung seen n f p a within t m z k r b from to end w v y e l s g =
     let h = hung_there n f (place_at t z) r y (sym e) in
@@ -292,9 +262,9 @@ walked_hung seen n f p a within t m z k r b from to end w v y e l s g =
 
 -- ---- where the state is settled among the children, or behind them
 
-pub settled_early : {S : Type 0} (seen : S → Row → S) (n : ℕ) (f : Forest) (p : Place) (a : Bool) (t : ℕ) (m : Tree) (z : ℕ) (d : NodeData) (xs : List ℕ) (i : ℕ) (root : Option Place) (leaf within : Bool) (from next to : S)
-    → IsDistinct m.trees → has m.trees z ≡ true → Some d ≡ node m z → xs ≡ d.children → root ≡ hung_root n f (place_at t z) → leaf ≡ (is_nil xs && not (is_some root)) → within ≡ (same_place p (place_at t z) || a)
-    → next ≡ seen from (row (place_at t z) (look_of d) leaf within) → to ≡ folded seen next (flat_map (node_rows n f p within t m.trees) (take i xs)) → IsSettled seen to
+pub settled_early : {S : Type 0} (seen : S → Row → S) (n : ℕ) (f : Forest) (p : Targets) (a : Within) (t : ℕ) (m : Tree) (z : ℕ) (d : NodeData) (xs : List ℕ) (i : ℕ) (root : Option Place) (leaf : Bool) (within : Within) (from next to : S)
+    → IsDistinct m.trees → has m.trees z ≡ true → Some d ≡ node m z → xs ≡ d.children → root ≡ hung_root n f (place_at t z) → leaf ≡ (is_nil xs && not (is_some root)) → within ≡ (within_of p (place_at t z) a)
+    → next ≡ seen from (row_of (place_at t z) (look_of d) leaf within) → to ≡ folded seen next (flat_map (node_rows n f p within t m.trees) (take i xs)) → IsSettled seen to
     → to ≡ folded seen from (node_rows n f p a t m.trees z)
 settled_early seen n f p a t m z d xs i root leaf within from next to w h e x o l v s g k =
     let rows = node_rows n f p within t m.trees in
@@ -305,7 +275,7 @@ settled_early seen n f p a t m z d xs i root leaf within from next to w h e x o 
     ∙ (folded-append seen next (flat_map rows (take i xs)) (flat_map rows (drop i xs))
     ∙ (ap (λ u. folded seen u (flat_map rows (drop i xs))) (sym g) ∙ folded_settled seen to (flat_map rows (drop i xs)) k))) in
     let whole = walked seen n f p a t m z d xs (length xs) root leaf within from next to w h e x o l v s (omega arith) (sym all) in
-    sym (whole.rows ∙ folded_settled seen to (tree_rows p (same_place p (place_at t z) || a) (hung_tree n f (place_at t z))) k)
+    sym (whole.rows ∙ folded_settled seen to (tree_rows p (within_of p (place_at t z) a) (hung_tree n f (place_at t z))) k)
 
 pub node_is : (m : Tree) (z : ℕ) (r : Option (Bor NodeData)) (b : Bor NodeData) → option_copied r ≡ node m z → r ≡ Some b → Some b.now ≡ node m z
 node_is m z r b e s = sym (ap option_copied s) ∙ e

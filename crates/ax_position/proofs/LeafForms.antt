@@ -1,24 +1,23 @@
 -- The form of a position on a leaf, and of a global offset, as it is told.
-use Rattle.std.proofs.Common.{ℕ, ◌+◌, ◌≤◌, ◌<◌, ◌≡◌, inl, inr, true, false, List, [], ◌∷◌, Option, Some, None, refl, sym, ap, ◌∙◌, subst, arith, option_map, option_and_then, is_some, IfErr}
+use Rattle.std.proofs.Common.{ℕ, ◌+◌, ◌≤◌, ◌<◌, ◌≡◌, inl, inr, true, false, List, [], ◌∷◌, Option, Some, None, refl, sym, ap, ◌∙◌, arith, option_map, option_and_then, is_some}
 use Rattle.std.specs.Prelude.{Result, Ok, Err, nat_lt, if◌then◌else◌}
 use Rattle.ax_base.specs.declared.position.Place.{Place}
 use Rattle.ax_base.specs.declared.position.Affinity.{Affinity}
 use Rattle.ax_base.specs.declared.position.Affinity.TheVariants.{Down}
 use Rattle.ax_base.specs.declared.position.Pos.{Pos}
-use Rattle.ax_base.specs.declared.position.Pos.TheVariants.{Tree}
 use Rattle.ax_base.specs.declared.position.PosErr.{PosErr}
 use Rattle.ax_base.specs.declared.position.PosErr.TheVariants.{BadOffset}
 use Rattle.ax_tree.specs.Forest.{Forest, IsSound}
 use Rattle.ax_rules.specs.Sequences.{first_of}
-use Rattle.ax_rules.specs.Stitched.{Placed, place_at, places, stitched, has_place}
+use Rattle.ax_rules.specs.Stitched.{Placed, places, stitched, has_place}
 use Rattle.ax_rules.specs.Texts.{capped, text_len, start_of}
-use Rattle.ax_rules.specs.Positions.{Mark, mark, child_mark, text_mark, global_offset, leaf_form}
+use Rattle.ax_rules.specs.Positions.{Mark, text_mark, global_offset, leaf_form}
 use Rattle.ax_rules.specs.Moves.{first_place}
 use Rattle.ax_place_laws.proofs.Forms.{first_start, form_at}
 use Rattle.ax_position.specs.Walks.{rows, folded}
 use Rattle.ax_position.specs.declared.leaves.Search.{Search}
 use Rattle.ax_position.specs.Leaves.{begun_search, goal_of, sought, pos_on}
-use Rattle.ax_position.specs.Marks.{of_mark, place_in, mark_there}
+use Rattle.ax_position.specs.Marks.{of_mark}
 use Rattle.ax_position.specs.Forms.{leaf_of_mark, if_some, at_offset, leaf_at_offset}
 use Rattle.ax_position.proofs.Surveys.{IsMeasured}
 use Rattle.ax_position.proofs.Marking.{less_true, less_false, measured_bad, measured_good}
@@ -45,28 +44,6 @@ form_there f p o a s r w h e g k = ap is_some k ∙ form_at f p o a w h (within 
     within : IsMeasured o (text_len (stitched f) p) s.len → o ≤ text_len (stitched f) p
     within (inl n) = omega (arith, g, n)
     within (inr m) = let a = m.0 in let b = m.1 in omega (arith, a, b)
-
--- a mark before a child stands at an offset of the text
-tree_mark : (l : List Placed) (x : Pos) (t z c : ℕ) (p : Place) (m : Mark) → x ≡ Tree t z c → place_in x ≡ Some p → Ok m ≡ child_mark l p c → m.place ≡ p → m.offset ≤ text_len l m.place
-    → text_mark l p m.offset m.affinity ≡ mark_there l x
-unfolding text_mark
-tree_mark l x t z c p m e i k s w =
-    let both : ◌≡◌ {A = Option Place} (Some (place_at t z)) (Some p) = sym (ap place_in e) ∙ i in
-    let at : place_at t z ≡ p = cc in
-    let there : mark_there l x ≡ child_mark l p c = ap (mark_there l) e ∙ ap (λ q. child_mark l q c) at in
-    let len : m.offset ≤ text_len l p = let n = ap (text_len l) s in omega (arith, w, n) in
-    let fits : nat_lt (text_len l p) m.offset ≡ false = less_false (text_len l p) m.offset len in
-    let same : ◌≡◌ {A = Result Mark PosErr} (Ok (mark p m.offset m.affinity)) (Ok m) = ap (λ q. Ok (mark q m.offset m.affinity)) (sym s) in
-    let text : text_mark l p m.offset m.affinity ≡ Ok (mark p m.offset m.affinity) = rw fits refl in
-    text ∙ (same ∙ (k ∙ sym there))
-
-pub tree_refused : (l : List Placed) (x : Pos) (t z c : ℕ) (p : Place) (m : Mark) (r : Result Pos PosErr) → x ≡ Tree t z c → place_in x ≡ Some p → Ok m ≡ child_mark l p c → m.place ≡ p → m.offset ≤ text_len l m.place
-    → IfErr r (λ e. text_mark l p m.offset m.affinity ≡ Err e) → IfErr r (λ e. mark_there l x ≡ Err e)
-tree_refused l x t z c p m r e i k s w h = subst (λ v. IfErr r (λ e. v ≡ Err e)) (tree_mark l x t z c p m e i k s w) h
-
-pub tree_form : (l : List Placed) (x : Pos) (t z c : ℕ) (p : Place) (m : Mark) (r : Result Pos PosErr) → x ≡ Tree t z c → place_in x ≡ Some p → Ok m ≡ child_mark l p c → m.place ≡ p → m.offset ≤ text_len l m.place
-    → r ≡ if_some (of_mark (leaf_of_mark l) (text_mark l p m.offset m.affinity)) → r ≡ if_some (of_mark (leaf_of_mark l) (mark_there l x))
-tree_form l x t z c p m r e i k s w h = h ∙ ap (λ v. if_some (of_mark (leaf_of_mark l) v)) (tree_mark l x t z c p m e i k s w)
 
 -- ---- the global offset
 

@@ -11,3 +11,6 @@ pub mod Sought
 pub mod Meetings
 pub mod LeafForms
 pub mod Ranged
+pub mod Asking
+pub mod Pairing
+pub mod ChildSearches

@@ -1,6 +1,6 @@
 -- The text between two offsets.
-use Rattle.std.proofs.Common.{ℕ, zero, suc, ◌+◌, ◌-◌, ◌≤◌, ◌≡◌, Bool, true, min, max, List, [], ◌∷◌, ◌++◌, filter, take, drop, length, refl, sym, ap, ap₂, ◌∙◌, subst, arith, append_assoc, append-nil, encode_utf8, encode_utf8_all}
-use Rattle.std.specs.Prelude.{String, nat_le, Result, Ok, Err}
+use Rattle.std.proofs.Common.{ℕ, zero, suc, ◌+◌, ◌-◌, ◌≤◌, ◌≡◌, Bool, true, min, max, List, [], ◌∷◌, ◌++◌, filter, take, drop, length, refl, sym, ap, ap₂, ◌∙◌, arith, append_assoc, append-nil, encode_utf8, encode_utf8_all}
+use Rattle.std.specs.Prelude.{String, nat_le, Err}
 use Rattle.std.specs.Str.{chars, IsUtf8}
 use Rattle.std.specs.String.{string_bytes}
 use Rattle.std.proofs.lemmas.Str.{encodes-chars, IsUtf8-string_bytes}
@@ -18,7 +18,6 @@ use Rattle.ax_rules.specs.Positions.{Mark, global_offset, range_text}
 use Rattle.ax_position.specs.Walks.{row, rows, folded, IsSettled}
 use Rattle.ax_position.specs.declared.between.Between.{Between}
 use Rattle.ax_position.specs.Ranges.{part, gathered_on, gathered, text_between, is_text}
-use Rattle.ax_position.specs.Ranks.{of_marks}
 use Rattle.ax_position.proofs.Descents.{folded_settled}
 use Rattle.ax_position.proofs.StartLemmas.{rows_by, small}
 
@@ -125,18 +124,9 @@ marks_told l m n i j a b t x y e h k =
 
 -- ---- refusals
 
-refused_text : (e : PosErr) → is_text (Err e) (Err e)
+pub refused_text : (e : PosErr) → is_text (Err e) (Err e)
 refused_text NoTree = refl
 refused_text NoNode = refl
 refused_text (BadIndex c n) = refl
 refused_text (BadOffset o n) = refl
 refused_text NoMemory = refl
-
-pub first_refused : (answer : Mark → Mark → List ℕ) (e : PosErr) (r n : Result Mark PosErr) → Err e ≡ r → is_text (Err e) (of_marks answer r n)
-first_refused answer e r n h = subst (λ v. is_text (Err e) (of_marks answer v n)) h (refused_text e)
-
-pub second_refused : (answer : Mark → Mark → List ℕ) (e : PosErr) (m : Mark) (r n : Result Mark PosErr) → Ok m ≡ r → Err e ≡ n → is_text (Err e) (of_marks answer r n)
-second_refused answer e m r n g h = subst (λ v. is_text (Err e) (of_marks answer v n)) g (subst (λ v. is_text (Err e) (of_marks answer (Ok m) v)) h (refused_text e))
-
-pub text_wanting : (answer : Mark → Mark → List ℕ) (m k : Mark) (r n : Result Mark PosErr) → Ok m ≡ r → Ok k ≡ n → is_text (Err NoMemory) (of_marks answer r n)
-text_wanting answer m k r n g h = subst (λ v. is_text (Err NoMemory) (of_marks answer v n)) g (subst (λ v. is_text (Err NoMemory) (of_marks answer (Ok m) v)) h tt)

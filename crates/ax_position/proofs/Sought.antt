@@ -34,13 +34,13 @@ search_settled s h = record { stays = λ r. rw h refl }
 
 -- ---- what a list of leaves with their starts gives
 
-abbrev leaf_of : Begun → Leaf
+abbrev pub leaf_of : Begun → Leaf
 leaf_of m = record { place = m.leaf.place; start = m.start }
 
-abbrev is_hit : Affinity → ℕ → Begun → Bool
+abbrev pub is_hit : Affinity → ℕ → Begun → Bool
 is_hit a g m = fits a g m.start (capped (m.start + length (name_text m.leaf.look)))
 
-abbrev picked : Affinity → Option Leaf → List Begun → Option Leaf
+abbrev pub picked : Affinity → Option Leaf → List Begun → Option Leaf
 picked a found [] = found
 picked a found (m ∷ ms) = picked a (kept a found (leaf_of m)) ms
 
@@ -61,7 +61,7 @@ picked_up [] = refl
 picked_up (m ∷ ms) = up_is (leaf_of m) ms
 
 -- no leaf that begins behind the goal starts by it
-none_late : (leaf : Placed → Bool) (g n : ℕ) (l : List Placed) → n ≤ 18446744073709551615 → g < n → filter (is_hit Down g) (begun_leaves leaf n l) ≡ []
+pub none_late : (leaf : Placed → Bool) (g n : ℕ) (l : List Placed) → n ≤ 18446744073709551615 → g < n → filter (is_hit Down g) (begun_leaves leaf n l) ≡ []
 none_late leaf g n [] c h = refl
 none_late leaf g n (x ∷ l) c h =
     let no : nat_le n g ≡ false = grind (arith, h) in
@@ -211,7 +211,7 @@ module _ (leaf within : Placed → Bool) (p : Place) (n o : ℕ) where
 abbrev ahead_search : Place → ℕ → Affinity → ℕ → Search
 ahead_search p o a n = record { target = record { target = p; met = false; start = n }; offset = o; affinity = a; at = n; len = 0; found = None }
 
-abbrev sum_of : (Placed → Bool) → ℕ → List Placed → ℕ
+abbrev pub sum_of : (Placed → Bool) → ℕ → List Placed → ℕ
 sum_of leaf n [] = n
 sum_of leaf n (x ∷ l) = sum_of leaf (counted (leaf x) n (name_text x.look)) l
 
@@ -242,7 +242,7 @@ module _ (leaf within : Placed → Bool) (p : Place) (o : ℕ) (a : Affinity) wh
       → folded sought (ahead_search p o a n) (rows_by leaf within (x ∷ l)) ≡ folded sought (met_search p n o a n 0 None) (rows_by leaf within (x ∷ l))
   block_from n x l c w q = ap (λ v. folded sought v (rows_by leaf within l)) (met_now n x w q ∙ sym (met_search_on n x c))
 
-sum_is : (leaf : Placed → Bool) (n : ℕ) (l : List Placed) → n ≤ 18446744073709551615 → sum_of leaf n l ≡ capped (n + length (joined (filter leaf l)))
+pub sum_is : (leaf : Placed → Bool) (n : ℕ) (l : List Placed) → n ≤ 18446744073709551615 → sum_of leaf n l ≡ capped (n + length (joined (filter leaf l)))
 unfolding joined
 sum_is leaf n [] c = omega (arith, c)
 sum_is leaf n (x ∷ l) c =
@@ -317,11 +317,11 @@ first_of_map : {A B : Type 0} (f : A → B) (l : List A) → first_of (map f l) 
 first_of_map f [] = refl
 first_of_map f (x ∷ l) = refl
 
-map_twice : {A B C : Type 0} (g : B → C) (f : A → B) (o : Option A) → option_map g (option_map f o) ≡ option_map (λ x. g (f x)) o
+pub map_twice : {A B C : Type 0} (g : B → C) (f : A → B) (o : Option A) → option_map g (option_map f o) ≡ option_map (λ x. g (f x)) o
 map_twice g f None = refl
 map_twice g f (Some x) = refl
 
-picked_leaf : (l : List Placed) (p : Place) (g : ℕ) (a : Affinity) → picked a None (filter (is_hit a g) (map (begun_at l) (leaves_in l p))) ≡ option_map (λ s. leaf_of (begun_at l s)) (leaf_at l p g a)
+pub picked_leaf : (l : List Placed) (p : Place) (g : ℕ) (a : Affinity) → picked a None (filter (is_hit a g) (map (begun_at l) (leaves_in l p))) ≡ option_map (λ s. leaf_of (begun_at l s)) (leaf_at l p g a)
 unfolding leaf_at
 picked_leaf l p g Down =
     picked_down (filter (is_hit Down g) (map (begun_at l) (leaves_in l p)))

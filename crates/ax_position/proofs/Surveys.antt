@@ -25,7 +25,7 @@ use Rattle.ax_position.proofs.StartLemmas.{rows_by, not_counted, start_stays, st
 
 -- ---- a settled survey
 
-ended_counts : (a b : Bool) (n : ℕ) (text : List ℕ) → counted (a && (b && false)) n text ≡ n
+pub ended_counts : (a b : Bool) (n : ℕ) (text : List ℕ) → counted (a && (b && false)) n text ≡ n
 ended_counts true true n text = refl
 ended_counts true false n text = refl
 ended_counts false b n text = refl
@@ -64,21 +64,21 @@ IsMeasured limit whole len = (len ≡ whole) ⊎ ((limit ≤ len) × (len ≤ wh
 
 module _ (leaf within : Placed → Bool) (p : Place) (end : Option Place) (limit : ℕ) where
   -- how far a survey has come: nothing is counted yet, or something within the place
-  record IsAhead (s : Survey) : Type 0 where
-    target : s.target.target ≡ p
-    met : s.target.met ≡ false
-    ended : s.ended ≡ false
-    len : s.len ≡ 0
-    end_is : s.end ≡ end
-    limit_is : s.limit ≡ limit
+  pub record IsAhead (s : Survey) : Type 0 where
+    pub target : s.target.target ≡ p
+    pub met : s.target.met ≡ false
+    pub ended : s.ended ≡ false
+    pub len : s.len ≡ 0
+    pub end_is : s.end ≡ end
+    pub limit_is : s.limit ≡ limit
 
-  record IsInside (s : Survey) : Type 0 where
-    met : s.target.met ≡ true
-    end_is : s.end ≡ end
-    limit_is : s.limit ≡ limit
-    low : s.len ≤ 18446744073709551615
+  pub record IsInside (s : Survey) : Type 0 where
+    pub met : s.target.met ≡ true
+    pub end_is : s.end ≡ end
+    pub limit_is : s.limit ≡ limit
+    pub low : s.len ≤ 18446744073709551615
 
-  ahead_more : (s : Survey) (x : Placed) → IsAhead s → within x ≡ false → same_place x.place p ≡ false → ends_at end x ≡ false → IsAhead (surveyed s (row x.place x.look (leaf x) (within x)))
+  pub ahead_more : (s : Survey) (x : Placed) → IsAhead s → within x ≡ false → same_place x.place p ≡ false → ends_at end x ≡ false → IsAhead (surveyed s (row x.place x.look (leaf x) (within x)))
   ahead_more s x h w n e =
       let met : (s.target.met || same_place x.place s.target.target) ≡ false = ap (λ b. b || same_place x.place s.target.target) h.met ∙ (ap (same_place x.place) h.target ∙ n) in
       let ended : (s.ended || (is_place x.place s.end || (s.target.met && (not (within x) || nat_le s.limit s.len)))) ≡ false =
@@ -108,7 +108,7 @@ module _ (leaf within : Placed → Bool) (p : Place) (end : Option Place) (limit
       ended_stays l next ended ∙ (ap (λ b. counted (leaf x && (within x && not b)) s.len (name_text x.look)) ended ∙ ended_counts (leaf x) (within x) s.len (name_text x.look))
 
   -- behind the place nothing counts
-  behind : (l : List Placed) (s : Survey) → EachOf (λ x. within x ≡ false) l → (folded surveyed s (rows_by leaf within l)).len ≡ s.len
+  pub behind : (l : List Placed) (s : Survey) → EachOf (λ x. within x ≡ false) l → (folded surveyed s (rows_by leaf within l)).len ≡ s.len
   behind [] s w = refl
   behind (x ∷ l) s w =
       let out = w.0 in
@@ -129,7 +129,7 @@ module _ (leaf within : Placed → Bool) (p : Place) (end : Option Place) (limit
       let k = h.limit_is in
       rw (m, w, e, k) refl
 
-  inside_more : (s : Survey) (x : Placed) → IsInside s → IsInside (surveyed s (row x.place x.look (leaf x) (within x)))
+  pub inside_more : (s : Survey) (x : Placed) → IsInside s → IsInside (surveyed s (row x.place x.look (leaf x) (within x)))
   inside_more s x h = record {
     met = ap (λ b. b || same_place x.place s.target.target) h.met;
     end_is = h.end_is;
@@ -137,7 +137,7 @@ module _ (leaf within : Placed → Bool) (p : Place) (end : Option Place) (limit
     low = small (leaf x && (within x && not (s.ended || (is_place x.place s.end || (s.target.met && (not (within x) || nat_le s.limit s.len)))))) s.len (name_text x.look) h.low;
   }
 
-  measured : (l : List Placed) (s : Survey) → IsInside s → s.ended ≡ false → EachOf (λ x. within x ≡ true) l
+  pub measured : (l : List Placed) (s : Survey) → IsInside s → s.ended ≡ false → EachOf (λ x. within x ≡ true) l
       → IsMeasured limit (capped (s.len + length (joined (filter leaf (until (ends_at end) l))))) (folded surveyed s (rows_by leaf within l)).len
   unfolding joined
   measured [] s h e w = inl (let low = h.low in omega (arith, low))

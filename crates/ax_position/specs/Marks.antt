@@ -1,5 +1,5 @@
 -- What the calls answer of a position, or how they refuse it.
-use Rattle.std.specs.Prelude.{ℕ, nat_lt, ◌==◌, not, if◌then◌else◌, List, length, slice_get, Option, Some, None, Result, Ok, Err}
+use Rattle.std.specs.Prelude.{ℕ, ◌≡◌, nat_lt, ◌==◌, not, if◌then◌else◌, List, length, slice_get, Option, Some, None, Result, Ok, Err}
 use Rattle.ax_base.specs.declared.position.Place.{Place}
 use Rattle.ax_base.specs.declared.position.Pos.{Pos}
 use Rattle.ax_base.specs.declared.position.Pos.TheVariants.{Null, Tree, Text}
@@ -7,8 +7,10 @@ use Rattle.ax_base.specs.declared.position.PosErr.{PosErr}
 use Rattle.ax_base.specs.declared.position.PosErr.TheVariants.{NoTree, NoNode}
 use Rattle.ax_tree.specs.Forest.{Forest}
 use Rattle.ax_rules.specs.Positions.{Mark, mark, is_live, child_mark, text_mark}
-use Rattle.ax_rules.specs.Stitched.{Placed, place_at, stitched, has_place}
+use Rattle.ax_rules.specs.Stitched.{Placed, place_at, stitched, has_place, children_of}
 use Rattle.ax_position.specs.declared.marked.Marked.{Marked}
+use Rattle.ax_position.specs.declared.pairs.Both.{Both}
+use Rattle.ax_position.specs.declared.survey.Asked.{Asked}
 
 -- what `answer` gives of the mark of a position, or the position's refusal
 abbrev pub of_mark : {A : Type 0} → (Mark → A) → Result Mark PosErr → Result A PosErr
@@ -43,3 +45,17 @@ most_before c = if c == 0 then 0 else 18446744073709551615
 -- why a place has no position
 unfoldable pub place_refusal : Forest → Place → Option PosErr
 place_refusal f p = if not (is_live f p.tree) then Some NoTree else if has_place (stitched f) p then None else Some NoNode
+
+-- what is to be asked of the place of a position: the text before a child, or as much of the whole as the offset
+abbrev pub IsAsked : List Placed → Pos → Asked → Type 0
+IsAsked l Null a = ⊥
+IsAsked l (Tree t z c) a = (place_at t z ≡ a.place) × ((child_before (children_of l a.place) c ≡ Ok a.end) × (a.limit ≡ most_before c))
+IsAsked l (Text t z o f) a = (place_at t z ≡ a.place) × ((a.end ≡ None) × (a.limit ≡ o))
+
+-- the marks of two positions
+abbrev pub two_marks : Mark → Mark → Mark × Mark
+two_marks m n = (m, n)
+
+abbrev pub marks_in_text : Result Both PosErr → Result (Mark × Mark) PosErr
+marks_in_text (Ok b) = Ok (mark b.one.place b.one.offset b.one.affinity, mark b.other.place b.other.offset b.other.affinity)
+marks_in_text (Err e) = Err e

@@ -17,8 +17,15 @@ first_met None o = o
 abbrev pub met_now : Place → Place → Place → Option Bool
 met_now p one other = if same_place p one then Some true else if same_place p other then Some false else None
 
+abbrev pub met_at : Place → Meeting → Meeting
+met_at q s = record { one = s.one; other = s.other; first = first_met s.first (met_now q s.one s.other) }
+
 abbrev pub met_first : Meeting → Row → Meeting
-met_first s r = record { one = s.one; other = s.other; first = first_met s.first (met_now r.place s.one s.other) }
+met_first s r = met_at r.place s
+
+-- nothing is met yet
+abbrev pub begun_meeting : Place → Place → Meeting
+begun_meeting p q = record { one = p; other = q; first = None }
 
 -- what `answer` gives of two marks, or the refusal of the first before that of the second
 abbrev pub of_marks : {A : Type 0} → (Mark → Mark → A) → Result Mark PosErr → Result Mark PosErr → Result A PosErr

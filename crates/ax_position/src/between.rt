@@ -10,10 +10,12 @@ ghost use Rattle.ax_position.specs.Ranks.{of_marks};
 ghost use Rattle.ax_position.specs.Ranges.{part, gathered, text_between, is_text};
 
 use crate::gathered::Gathered;
-use crate::marked::{Marked, mark_of};
+use crate::marked::Marked;
+use crate::pairs::marks_of;
 use crate::places::{Visitor, walk};
 use crate::positions::global;
 use crate::starts::counted;
+use crate::targets::Within;
 use ax_attrs::Key;
 use ax_base::{NoMemory, Place, Pos, PosErr, Text};
 use ax_node::{NodeData, Value};
@@ -86,7 +88,7 @@ impl Visitor for Between {
         _place: &Place,
         node: &NodeData,
         leaf: bool,
-        _within: bool,
+        _within: Within,
     ) -> Result<(), NoMemory> {
         if self.is_over() {
             return Ok(());
@@ -147,16 +149,11 @@ fn text_of_marks<G: Grove>(
 pub fn range_text<G: Grove>(alloc: Global, g: &G, p: &Pos, q: &Pos) -> Result<Text, PosErr>
     ensures { is_text result (of_marks (range_text (stitched (G.forest g.now))) (checked (G.forest g.now) p.now) (checked (G.forest g.now) q.now)) }
 {
-    let one = match mark_of(g, p) {
-        Ok(one) => one,
-        Err(refusal) => return Err(refusal),
-    };
-    let other = match mark_of(g, q) {
-        Ok(other) => other,
-        Err(refusal) => return Err(refusal),
-    };
-    match text_of_marks(alloc, g, &one, &other) {
-        Ok(text) => Ok(text),
-        Err(NoMemory) => Err(PosErr::NoMemory),
+    match marks_of(g, p, q) {
+        Err(refusal) => Err(refusal),
+        Ok(both) => match text_of_marks(alloc, g, &both.one, &both.other) {
+            Ok(text) => Ok(text),
+            Err(NoMemory) => Err(PosErr::NoMemory),
+        },
     }
 }

@@ -1,12 +1,13 @@
 //! The form of a position on a leaf.
 ghost use Rattle.std.specs.Prelude.{◌≡◌, true, Some, IfErr, Err};
 ghost use Rattle.ax_rules.specs.Stitched.{stitched, has_place};
-ghost use Rattle.ax_rules.specs.Positions.{checked, text_mark};
+ghost use Rattle.ax_rules.specs.Positions.{checked, child_mark, text_mark};
 ghost use Rattle.ax_position.specs.Marks.{of_mark, mark_there, place_in};
 ghost use Rattle.ax_position.specs.Forms.{leaf_of_mark, if_some, at_offset, leaf_at_offset};
 
+use crate::child_search::child_form;
 use crate::leaves::{on_leaf, searched};
-use crate::marked::{before_child, place_of};
+use crate::marked::place_of;
 use ax_base::{Affinity, Place, Pos, PosErr};
 use ax_stitch::root;
 use ax_tree::Grove;
@@ -30,6 +31,19 @@ fn text_form<G: Grove>(
     Ok(form)
 }
 
+/// The form of a position before a child. Before the first one it is that of the text's start.
+fn form_before<G: Grove>(g: &G, place: &Place, child: usize) -> Result<Pos, PosErr>
+    requires { has_place (stitched (G.forest g.now)) place.now ≡ true }
+    ensures form { result ≡ if_some (of_mark (leaf_of_mark (stitched (G.forest g.now))) (child_mark (stitched (G.forest g.now)) place.now child)) }
+    ensures refused { IfErr result (λ e. child_mark (stitched (G.forest g.now)) place.now child ≡ Err e) }
+{
+    if child == 0 {
+        text_form(g, place, 0, &Affinity::Down)
+    } else {
+        child_form(g, place, child)
+    }
+}
+
 /// The form of a position at a place in the list.
 fn form_at<G: Grove>(g: &G, p: &Pos, place: &Place) -> Result<Pos, PosErr>
     requires there { has_place (stitched (G.forest g.now)) place.now ≡ true }
@@ -44,10 +58,7 @@ fn form_at<G: Grove>(g: &G, p: &Pos, place: &Place) -> Result<Pos, PosErr>
             affinity,
             ..
         } => text_form(g, place, *offset, affinity),
-        Pos::Tree { child, .. } => match before_child(g, place, place, *child) {
-            Ok(m) => text_form(g, place, m.offset, &m.affinity),
-            Err(refusal) => Err(refusal),
-        },
+        Pos::Tree { child, .. } => form_before(g, place, *child),
     }
 }
 

@@ -9,6 +9,7 @@ ghost use Rattle.ax_position.specs.Leaves.{begun_search, fits, goal_of, is_found
 use crate::places::{Visitor, walk};
 use crate::positions::text_pos;
 use crate::starts::{Start, counted};
+use crate::targets::Within;
 use ax_base::{Affinity, NoMemory, Place, Pos};
 use ax_node::NodeData;
 use ax_tree::Grove;
@@ -98,17 +99,17 @@ impl Visitor for Search {
         place: &Place,
         node: &NodeData,
         leaf: bool,
-        within: bool,
+        within: Within,
     ) -> Result<(), NoMemory> {
         if self.target.met && self.is_found() {
             return Ok(());
         }
-        self.target.see(place, node, leaf, within);
+        self.target.see(place, node, leaf, within.one);
         let start = self.at;
         self.at = counted(leaf, start, node);
-        self.len = counted(leaf && within, self.len, node);
+        self.len = counted(leaf && within.one, self.len, node);
         let goal = self.goal();
-        if leaf && within && fits(&self.affinity, goal, start, self.at) {
+        if leaf && within.one && fits(&self.affinity, goal, start, self.at) {
             self.found = kept(
                 &self.affinity,
                 &self.found,

@@ -1,12 +1,15 @@
 //! The position in text for which a position stands, or its refusal.
-ghost use Rattle.std.specs.Prelude.{◌≡◌, ◌≤◌, Some, true, IfOk, IfErr};
+ghost use Rattle.std.specs.Prelude.{◌≡◌, ◌≤◌, Some, true, IfOk, IfErr, Err};
+ghost use Rattle.ax_tree.specs.Forest.{IsSound};
 ghost use Rattle.ax_rules.specs.Stitched.{stitched, has_place, place_at};
 ghost use Rattle.ax_rules.specs.Texts.{start_of, text_len};
-ghost use Rattle.ax_rules.specs.Positions.{child_mark, text_mark, checked};
-ghost use Rattle.ax_position.specs.Marks.{mark_in_text, mark_there, most_before, place_in, place_refusal};
+ghost use Rattle.ax_rules.specs.Positions.{checked};
+ghost use Rattle.ax_position.specs.Walks.{folded, rows};
+ghost use Rattle.ax_position.specs.Surveys.{begun_survey, surveyed};
+ghost use Rattle.ax_position.specs.Marks.{IsAsked, mark_in_text, mark_there, most_before, place_in, place_refusal};
 
 use crate::kids::child_before;
-use crate::survey::survey_of;
+use crate::survey::{Asked, Survey, survey_of};
 use ax_base::{Affinity, Place, Pos, PosErr};
 use ax_stitch::has;
 use ax_tree::Grove;
@@ -27,62 +30,6 @@ fn most_before(child: usize) -> usize
     ensures { result ≡ most_before child }
 {
     if child == 0 { 0 } else { usize::MAX }
-}
-
-/// A position before a child of a place in the list.
-pub(crate) fn before_child<G: Grove>(
-    g: &G,
-    place: &Place,
-    above: &Place,
-    child: usize,
-) -> Result<Marked, PosErr>
-    requires { has_place (stitched (G.forest g.now)) place.now ≡ true }
-    ensures mark { mark_in_text result ≡ child_mark (stitched (G.forest g.now)) place.now child }
-    ensures within { IfOk result (λ m. m.offset ≤ text_len (stitched (G.forest g.now)) m.place) }
-    ensures at { IfOk result (λ m. m.place ≡ place.now) }
-    ensures start { IfOk result (λ m. m.start ≡ start_of (stitched (G.forest g.now)) m.place) }
-    ensures above { IfOk result (λ m. m.above ≡ start_of (stitched (G.forest g.now)) above.now) }
-{
-    let end = match child_before(g, place, child) {
-        Ok(end) => end,
-        Err(count) => return Err(PosErr::BadIndex(child, count)),
-    };
-    let limit = most_before(child);
-    let survey = survey_of(g, *place, *above, end, limit);
-    Ok(Marked {
-        place: *place,
-        start: survey.target.start,
-        above: survey.above.start,
-        offset: survey.len.min(limit),
-        affinity: Affinity::Down,
-    })
-}
-
-/// A position at an offset of the text of a place in the list.
-fn at_offset<G: Grove>(
-    g: &G,
-    place: &Place,
-    above: &Place,
-    offset: usize,
-    affinity: &Affinity,
-) -> Result<Marked, PosErr>
-    requires { has_place (stitched (G.forest g.now)) place.now ≡ true }
-    ensures mark { mark_in_text result ≡ text_mark (stitched (G.forest g.now)) place.now offset affinity.now }
-    ensures at { IfOk result (λ m. m.place ≡ place.now) }
-    ensures start { IfOk result (λ m. m.start ≡ start_of (stitched (G.forest g.now)) m.place) }
-    ensures above { IfOk result (λ m. m.above ≡ start_of (stitched (G.forest g.now)) above.now) }
-{
-    let survey = survey_of(g, *place, *above, None, offset);
-    if offset > survey.len {
-        return Err(PosErr::BadOffset(offset, survey.len));
-    }
-    Ok(Marked {
-        place: *place,
-        start: survey.target.start,
-        above: survey.above.start,
-        offset,
-        affinity: *affinity,
-    })
 }
 
 /// Why a place has no position, where that is so.
@@ -134,6 +81,93 @@ pub(crate) fn place_of<G: Grove>(g: &G, p: &Pos) -> Result<Place, PosErr>
     }
 }
 
+/// What is to be asked for a position at a place in the list, and where another place starts; or the position's refusal.
+fn asked_at<G: Grove>(g: &G, p: &Pos, place: &Place, above: &Place) -> Result<Asked, PosErr>
+    requires there { has_place (stitched (G.forest g.now)) place.now ≡ true }
+    requires place { place_in p.now ≡ Some place.now }
+    ensures asked { IfOk result (IsAsked (stitched (G.forest g.now)) p.now) }
+    ensures at { IfOk result (λ a. (a.place ≡ place.now) × (a.above ≡ above.now)) }
+    ensures refused { IfErr result (λ e. mark_there (stitched (G.forest g.now)) p.now ≡ Err e) }
+{
+    match p {
+        Pos::Null => Err(PosErr::NoTree),
+        Pos::Tree { child, .. } => match child_before(g, place, *child) {
+            Ok(end) => Ok(Asked {
+                place: *place,
+                above: *above,
+                end,
+                limit: most_before(*child),
+            }),
+            Err(count) => Err(PosErr::BadIndex(*child, count)),
+        },
+        Pos::Text { offset, .. } => Ok(Asked {
+            place: *place,
+            above: *above,
+            end: None,
+            limit: *offset,
+        }),
+    }
+}
+
+/// The position in text for which a position stands whose place was surveyed, or its refusal.
+pub(crate) fn mark_by<G: Grove>(
+    _g: &G,
+    p: &Pos,
+    asked: &Asked,
+    survey: &Survey,
+) -> Result<Marked, PosErr>
+    requires sound { IsSound (G.forest _g.now) }
+    requires asked { IsAsked (stitched (G.forest _g.now)) p.now asked.now }
+    requires there { has_place (stitched (G.forest _g.now)) asked.now.place ≡ true }
+    requires seen { survey.now ≡ folded surveyed (begun_survey asked.now.place asked.now.above asked.now.end asked.now.limit) (rows (stitched (G.forest _g.now)) asked.now.place) }
+    ensures mark { mark_in_text result ≡ mark_there (stitched (G.forest _g.now)) p.now }
+    ensures at { IfOk result (λ m. m.place ≡ asked.now.place) }
+    ensures within { IfOk result (λ m. m.offset ≤ text_len (stitched (G.forest _g.now)) m.place) }
+    ensures start { IfOk result (λ m. m.start ≡ start_of (stitched (G.forest _g.now)) m.place) }
+    ensures above { IfOk result (λ m. m.above ≡ start_of (stitched (G.forest _g.now)) asked.now.above) }
+{
+    match p {
+        Pos::Null => Err(PosErr::NoTree),
+        Pos::Tree { .. } => Ok(Marked {
+            place: asked.place,
+            start: survey.target.start,
+            above: survey.above.start,
+            offset: survey.len.min(asked.limit),
+            affinity: Affinity::Down,
+        }),
+        Pos::Text {
+            offset,
+            affinity,
+            ..
+        } => {
+            if *offset > survey.len {
+                return Err(PosErr::BadOffset(*offset, survey.len));
+            }
+            Ok(Marked {
+                place: asked.place,
+                start: survey.target.start,
+                above: survey.above.start,
+                offset: *offset,
+                affinity: *affinity,
+            })
+        }
+    }
+}
+
+/// The position in text for which a position stands of which this is to be asked, or its refusal.
+pub(crate) fn mark_asked<G: Grove>(g: &G, p: &Pos, asked: &Asked) -> Result<Marked, PosErr>
+    requires asked { IsAsked (stitched (G.forest g.now)) p.now asked.now }
+    requires there { has_place (stitched (G.forest g.now)) asked.now.place ≡ true }
+    ensures mark { mark_in_text result ≡ mark_there (stitched (G.forest g.now)) p.now }
+    ensures at { IfOk result (λ m. m.place ≡ asked.now.place) }
+    ensures within { IfOk result (λ m. m.offset ≤ text_len (stitched (G.forest g.now)) m.place) }
+    ensures start { IfOk result (λ m. m.start ≡ start_of (stitched (G.forest g.now)) m.place) }
+    ensures above { IfOk result (λ m. m.above ≡ start_of (stitched (G.forest g.now)) asked.now.above) }
+{
+    let survey = survey_of(g, asked);
+    mark_by(g, p, asked, &survey)
+}
+
 /// The position in text for which a position at a place in the list stands, and where another place starts.
 pub(crate) fn mark_at<G: Grove>(
     g: &G,
@@ -145,17 +179,26 @@ pub(crate) fn mark_at<G: Grove>(
     requires place { place_in p.now ≡ Some place.now }
     ensures mark { mark_in_text result ≡ mark_there (stitched (G.forest g.now)) p.now }
     ensures at { IfOk result (λ m. m.place ≡ place.now) }
+    ensures within { IfOk result (λ m. m.offset ≤ text_len (stitched (G.forest g.now)) m.place) }
     ensures start { IfOk result (λ m. m.start ≡ start_of (stitched (G.forest g.now)) m.place) }
     ensures above { IfOk result (λ m. m.above ≡ start_of (stitched (G.forest g.now)) above.now) }
 {
-    match p {
-        Pos::Null => Err(PosErr::NoTree),
-        Pos::Tree { child, .. } => before_child(g, place, above, *child),
-        Pos::Text {
-            offset,
-            affinity,
-            ..
-        } => at_offset(g, place, above, *offset, affinity),
+    match asked_at(g, p, place, above) {
+        Ok(asked) => mark_asked(g, p, &asked),
+        Err(refusal) => Err(refusal),
+    }
+}
+
+/// What is to be asked for a position, or its refusal, where no walk is needed to see that.
+pub(crate) fn asked_of<G: Grove>(g: &G, p: &Pos) -> Result<Asked, PosErr>
+    ensures asked { IfOk result (IsAsked (stitched (G.forest g.now)) p.now) }
+    ensures there { IfOk result (λ a. has_place (stitched (G.forest g.now)) a.place ≡ true) }
+    ensures mark { IfOk result (λ _. checked (G.forest g.now) p.now ≡ mark_there (stitched (G.forest g.now)) p.now) }
+    ensures refused { IfErr result (λ e. checked (G.forest g.now) p.now ≡ Err e) }
+{
+    match place_of(g, p) {
+        Ok(place) => asked_at(g, p, &place, &place),
+        Err(refusal) => Err(refusal),
     }
 }
 
@@ -164,8 +207,8 @@ pub(crate) fn mark_of<G: Grove>(g: &G, p: &Pos) -> Result<Marked, PosErr>
     ensures mark { mark_in_text result ≡ checked (G.forest g.now) p.now }
     ensures start { IfOk result (λ m. m.start ≡ start_of (stitched (G.forest g.now)) m.place) }
 {
-    match place_of(g, p) {
-        Ok(place) => mark_at(g, p, &place, &place),
+    match asked_of(g, p) {
+        Ok(asked) => mark_asked(g, p, &asked),
         Err(refusal) => Err(refusal),
     }
 }

@@ -1,18 +1,15 @@
 //! The order of two positions.
-ghost use Rattle.std.specs.Prelude.{◌≡◌, Bool, false, None, length};
-ghost use Rattle.ax_node.specs.Look.{look_of};
+ghost use Rattle.std.specs.Prelude.{◌≡◌, true, length};
 ghost use Rattle.ax_rules.specs.Stitched.{stitched, before};
 ghost use Rattle.ax_rules.specs.Texts.{start_of};
 ghost use Rattle.ax_rules.specs.Positions.{mark, checked, by_number, affinity_order, position_order};
-ghost use Rattle.ax_position.specs.Walks.{folded, rows};
-ghost use Rattle.ax_position.specs.Ranks.{met_first, by_first, of_marks};
+ghost use Rattle.ax_position.specs.Walks.{folded, rows, IsSettled};
+ghost use Rattle.ax_position.specs.Ranks.{begun_meeting, met_at, met_first, by_first, of_marks};
 
-use crate::marked::{Marked, mark_of};
-use crate::places::{Visitor, walk};
+use crate::pairs::{Both, marks_of};
 use crate::positions::global;
 use crate::starts::same_place;
-use ax_base::{Affinity, NoMemory, Place, Pos, PosErr};
-use ax_node::NodeData;
+use ax_base::{Affinity, Place, Pos, PosErr};
 use ax_tree::Grove;
 use std::cmp::Ordering;
 
@@ -24,44 +21,37 @@ pub(crate) struct Meeting {
     pub(crate) first: Option<bool>,
 }
 
-impl Visitor for Meeting {
-    ghost seen = { met_first };
-
-    ghost fails = { λ _. false };
-
-    fn visit(
-        &mut self,
-        place: &Place,
-        _node: &NodeData,
-        _leaf: bool,
-        _within: bool,
-    ) -> Result<(), NoMemory> {
-        if self.first.is_none() {
-            if same_place(place, &self.one) {
-                self.first = Some(true);
-            } else if same_place(place, &self.other) {
-                self.first = Some(false);
-            }
+impl Meeting {
+    pub(crate) fn new(one: Place, other: Place) -> Meeting
+        ensures { result ≡ begun_meeting one other }
+    {
+        Meeting {
+            one,
+            other,
+            first: None,
         }
-        Ok(())
     }
 
-    fn is_settled(&self) -> bool {
+    /// Sees a place.
+    pub(crate) fn see(&mut self, place: &Place)
+        ensures { self.new ≡ met_at place.now self.old }
+    {
+        if self.first.is_some() {
+            return;
+        }
+        if same_place(place, &self.one) {
+            self.first = Some(true);
+        } else if same_place(place, &self.other) {
+            self.first = Some(false);
+        }
+    }
+
+    /// Whether no further place changes it.
+    pub(crate) fn is_over(&self) -> bool
+        ensures { (result ≡ true) → IsSettled met_first self.now }
+    {
         self.first.is_some()
     }
-}
-
-/// Whether the first of two places stands before the other; none where neither stands in the list.
-fn met<G: Grove>(g: &G, one: &Place, other: &Place) -> Meeting
-    ensures { result ≡ folded met_first (record { one = one.now; other = other.now; first = None }) (rows (stitched (G.forest g.now)) one.now) }
-{
-    let mut meeting = Meeting {
-        one: *one,
-        other: *other,
-        first: None,
-    };
-    let _ = walk(g, one, &mut meeting);
-    meeting
 }
 
 /// Up stands before down.
@@ -86,15 +76,21 @@ fn by_meeting(first: Option<bool>, same: Ordering) -> Ordering
     }
 }
 
-/// The order of two places in the list, or the given one where they are the same.
-fn by_place<G: Grove>(g: &G, one: &Place, other: &Place, same: Ordering) -> Ordering
-    ensures { result ≡ by_number (length (before (stitched (G.forest g.now)) one.now)) (length (before (stitched (G.forest g.now)) other.now)) same }
+/// The order of two places in the list, of which it is known which was met first, or the given one where they are the same.
+fn by_place<G: Grove>(
+    _g: &G,
+    one: &Place,
+    other: &Place,
+    first: Option<bool>,
+    same: Ordering,
+) -> Ordering
+    requires { first ≡ (folded met_first (begun_meeting one.now other.now) (rows (stitched (G.forest _g.now)) one.now)).first }
+    ensures { result ≡ by_number (length (before (stitched (G.forest _g.now)) one.now)) (length (before (stitched (G.forest _g.now)) other.now)) same }
 {
     if same_place(one, other) {
         return same;
     }
-    let meeting = met(g, one, other);
-    by_meeting(meeting.first, same)
+    by_meeting(first, same)
 }
 
 /// The order of two numbers, or the given one where they are the same.
@@ -110,15 +106,18 @@ fn by_number(one: usize, other: usize, same: Ordering) -> Ordering
     }
 }
 
-/// The order of two marks.
+/// The order of two marks, of whose places it is known which was met first.
 #[tactic(auto, unfolding(ax_rules::specs::Positions::position_order, ax_rules::specs::Positions::global_offset))]
-fn order<G: Grove>(g: &G, one: &Marked, other: &Marked) -> Ordering
-    requires one { one.now.start ≡ start_of (stitched (G.forest g.now)) one.now.place }
-    requires other { other.now.start ≡ start_of (stitched (G.forest g.now)) other.now.place }
-    ensures { result ≡ position_order (stitched (G.forest g.now)) (mark one.now.place one.now.offset one.now.affinity) (mark other.now.place other.now.offset other.now.affinity) }
+fn order<G: Grove>(g: &G, both: &Both) -> Ordering
+    requires one { both.now.one.start ≡ start_of (stitched (G.forest g.now)) both.now.one.place }
+    requires other { both.now.other.start ≡ start_of (stitched (G.forest g.now)) both.now.other.place }
+    requires first { both.now.first ≡ (folded met_first (begun_meeting both.now.one.place both.now.other.place) (rows (stitched (G.forest g.now)) both.now.one.place)).first }
+    ensures { result ≡ position_order (stitched (G.forest g.now)) (mark both.now.one.place both.now.one.offset both.now.one.affinity) (mark both.now.other.place both.now.other.offset both.now.other.affinity) }
 {
+    let one = &both.one;
+    let other = &both.other;
     let same = by_affinity(&one.affinity, &other.affinity);
-    let placed = by_place(g, &one.place, &other.place, same);
+    let placed = by_place(g, &one.place, &other.place, both.first, same);
     by_number(global(one), global(other), placed)
 }
 
@@ -127,11 +126,8 @@ fn order<G: Grove>(g: &G, one: &Marked, other: &Marked) -> Ordering
 pub fn compare<G: Grove>(g: &G, p: &Pos, q: &Pos) -> Result<Ordering, PosErr>
     ensures { result ≡ of_marks (position_order (stitched (G.forest g.now))) (checked (G.forest g.now) p.now) (checked (G.forest g.now) q.now) }
 {
-    match mark_of(g, p) {
+    match marks_of(g, p, q) {
         Err(refusal) => Err(refusal),
-        Ok(one) => match mark_of(g, q) {
-            Err(refusal) => Err(refusal),
-            Ok(other) => Ok(order(g, &one, &other)),
-        },
+        Ok(both) => Ok(order(g, &both)),
     }
 }

@@ -1,12 +1,14 @@
 //! A survey of a place: where it and another place start, and how long its text is, as far as that is asked for.
-ghost use Rattle.std.specs.Prelude.{◌≡◌, Bool, false};
+ghost use Rattle.std.specs.Prelude.{◌≡◌, Bool, true, false};
+ghost use Rattle.ax_node.specs.Look.{look_of};
 ghost use Rattle.ax_tree.specs.Forest.{IsSound, is_place};
 ghost use Rattle.ax_rules.specs.Stitched.{stitched};
-ghost use Rattle.ax_position.specs.Walks.{folded, rows};
+ghost use Rattle.ax_position.specs.Walks.{row, folded, rows, IsSettled};
 ghost use Rattle.ax_position.specs.Surveys.{begun_survey, surveyed};
 
 use crate::places::{Visitor, walk};
 use crate::starts::{Start, counted, same_place};
+use crate::targets::Within;
 use ax_base::{NoMemory, Place};
 use ax_node::NodeData;
 use ax_tree::Grove;
@@ -32,18 +34,46 @@ pub(crate) struct Survey {
     pub(crate) len: usize,
 }
 
+/// What is asked of a place: where it and another one start, and how long its text is, or its part before the place `end`,
+/// as far as less than `limit` is counted.
+#[derive(Clone, Copy, Debug)]
+pub(crate) struct Asked {
+    pub(crate) place: Place,
+    pub(crate) above: Place,
+    pub(crate) end: Option<Place>,
+    pub(crate) limit: usize,
+}
+
 impl Survey {
-    fn new(target: Place, above: Place, end: Option<Place>, limit: usize) -> Survey
-        ensures { result ≡ begun_survey target above end limit }
+    pub(crate) fn new(asked: &Asked) -> Survey
+        ensures { result ≡ begun_survey asked.now.place asked.now.above asked.now.end asked.now.limit }
     {
         Survey {
-            target: Start::new(target),
-            above: Start::new(above),
-            end,
-            limit,
+            target: Start::new(asked.place),
+            above: Start::new(asked.above),
+            end: asked.end,
+            limit: asked.limit,
             ended: false,
             len: 0,
         }
+    }
+
+    /// Sees a place with its node.
+    pub(crate) fn see(&mut self, place: &Place, node: &NodeData, leaf: bool, within: bool)
+        ensures { self.new ≡ surveyed self.old (row place.now (look_of node.now) leaf within) }
+    {
+        let behind = self.target.met && (!within || self.limit <= self.len);
+        self.ended = self.ended || is_place(place, &self.end) || behind;
+        self.target.see(place, node, leaf, within);
+        self.above.see(place, node, leaf, within);
+        self.len = counted(leaf && within && !self.ended, self.len, node);
+    }
+
+    /// Whether no further row changes it.
+    pub(crate) fn is_over(&self) -> bool
+        ensures { (result ≡ true) → IsSettled surveyed self.now }
+    {
+        self.ended && self.target.met && self.above.met
     }
 }
 
@@ -57,33 +87,23 @@ impl Visitor for Survey {
         place: &Place,
         node: &NodeData,
         leaf: bool,
-        within: bool,
+        within: Within,
     ) -> Result<(), NoMemory> {
-        let behind = self.target.met && (!within || self.limit <= self.len);
-        self.ended = self.ended || is_place(place, &self.end) || behind;
-        self.target.see(place, node, leaf, within);
-        self.above.see(place, node, leaf, within);
-        self.len = counted(leaf && within && !self.ended, self.len, node);
+        self.see(place, node, leaf, within.one);
         Ok(())
     }
 
     fn is_settled(&self) -> bool {
-        self.ended && self.target.met && self.above.met
+        self.is_over()
     }
 }
 
 /// Surveys a place, and where another one starts.
-pub(crate) fn survey_of<G: Grove>(
-    g: &G,
-    target: Place,
-    above: Place,
-    end: Option<Place>,
-    limit: usize,
-) -> Survey
-    ensures seen { result ≡ folded surveyed (begun_survey target above end limit) (rows (stitched (G.forest g.now)) target) }
+pub(crate) fn survey_of<G: Grove>(g: &G, asked: &Asked) -> Survey
+    ensures seen { result ≡ folded surveyed (begun_survey asked.now.place asked.now.above asked.now.end asked.now.limit) (rows (stitched (G.forest g.now)) asked.now.place) }
     ensures sound { IsSound (G.forest g.now) }
 {
-    let mut survey = Survey::new(target, above, end, limit);
-    let _ = walk(g, &target, &mut survey);
+    let mut survey = Survey::new(asked);
+    let _ = walk(g, &asked.place, &mut survey);
     survey
 }

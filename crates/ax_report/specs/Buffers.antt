@@ -2,6 +2,6 @@
 use Rattle.std.specs.Prelude.{ℕ, ◌≡◌, List, ◌++◌}
 
 -- the bytes begin with those that were there before
-pub record Begins (old new : List ℕ) : Type 0 where
+pub record Extends (old new : List ℕ) : Type 0 where
   pub more : List ℕ
   pub whole : new ≡ old ++ more

@@ -4,7 +4,7 @@ ghost use Rattle.std.specs.List.{flat_map, enumerate_from};
 ghost use Rattle.ax_tree.specs.Forest.{Forest, first_tree};
 ghost use Rattle.ax_rules.specs.Stitched.{stitched};
 ghost use Rattle.ax_run_rules.specs.CombineText.{node_line, combined_text};
-ghost use Rattle.ax_report.specs.Buffers.{Begins};
+ghost use Rattle.ax_report.specs.Buffers.{Extends};
 ghost use Rattle.ax_report.specs.Combining.{IsCombined, place_of_number, row_head, row_text};
 
 use crate::Bytes;
@@ -67,7 +67,7 @@ fn put_row<C: CombinedView>(
     requires there { at < length (stitched (C.forest view.now)) }
     requires combined { IsCombined (C.forest view.now) (C.TreeView.tree view.now) }
     ensures ok { OnOk result (out.new.items ≡ out.old.items ++ row_text (stitched (C.forest view.now)) at) }
-    ensures err { OnErr result (Begins out.old.items out.new.items) }
+    ensures err { OnErr result (Extends out.old.items out.new.items) }
 {
     let id = number_at(at);
     let place = view.place(id).unwrap();
@@ -88,7 +88,7 @@ fn put_rows<C: CombinedView>(
     requires all { count ≡ length (stitched (C.forest view.now)) }
     requires combined { IsCombined (C.forest view.now) (C.TreeView.tree view.now) }
     ensures ok { OnOk result (out.new.items ≡ out.old.items ++ flat_map (node_line (stitched (C.forest view.now))) (enumerate_from 1 (stitched (C.forest view.now)))) }
-    ensures err { OnErr result (Begins out.old.items out.new.items) }
+    ensures err { OnErr result (Extends out.old.items out.new.items) }
 {
     for at in 0..count {
         put_row(alloc, view, at, out)?;
@@ -102,7 +102,7 @@ pub(crate) fn put_combined<C: CombinedView>(
     out: &mut Bytes,
 ) -> Result<(), AllocError>
     ensures ok { OnOk result (out.new.items ≡ out.old.items ++ flat_map (combined_text (C.forest view.now)) (option_to_list (first_tree (C.forest view.now)))) }
-    ensures err { OnErr result (Begins out.old.items out.new.items) }
+    ensures err { OnErr result (Extends out.old.items out.new.items) }
 {
     let count = view.place_count();
     if count == 0 {

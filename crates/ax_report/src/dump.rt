@@ -4,7 +4,7 @@ ghost use Rattle.std.specs.List.{flat_map};
 ghost use Rattle.ax_node.specs.Look.{look_of};
 ghost use Rattle.ax_trees.specs.Trees.{height};
 ghost use Rattle.ax_run_rules.specs.Dump.{tree_text};
-ghost use Rattle.ax_report.specs.Buffers.{Begins};
+ghost use Rattle.ax_report.specs.Buffers.{Extends};
 ghost use Rattle.ax_report.specs.Walks.{node_line, under_text, standing_text};
 
 use crate::Bytes;
@@ -27,7 +27,7 @@ fn put_node(
     out: &mut Bytes,
 ) -> Result<(), AllocError>
     ensures ok { OnOk result (out.new.items ≡ out.old.items ++ node_line indent.now id (look_of node.now)) }
-    ensures err { OnErr result (Begins out.old.items out.new.items) }
+    ensures err { OnErr result (Extends out.old.items out.new.items) }
 {
     let id = id.get();
     let role = node.role.name();
@@ -47,7 +47,7 @@ fn put_under<V: TreeView>(
     out: &mut Bytes,
 ) -> Result<(), AllocError>
     ensures ok { OnOk result (out.new.items ≡ out.old.items ++ under_text (V.tree view.now) levels indent.now id) }
-    ensures err { OnErr result (Begins out.old.items out.new.items) }
+    ensures err { OnErr result (Extends out.old.items out.new.items) }
 {
     let Some(node) = view.node(id) else {
         return Ok(());
@@ -73,7 +73,7 @@ fn put_tree<V: TreeView>(
 ) -> Result<(), AllocError>
     requires { height (V.tree view.now).trees ≤ 256 }
     ensures ok { OnOk result (out.new.items ≡ out.old.items ++ tree_text tree (V.tree view.now)) }
-    ensures err { OnErr result (Begins out.old.items out.new.items) }
+    ensures err { OnErr result (Extends out.old.items out.new.items) }
 {
     match view.root() {
         None => {
@@ -96,7 +96,7 @@ fn put_standing<G: Grove>(
     out: &mut Bytes,
 ) -> Result<(), AllocError>
     ensures ok { OnOk result (out.new.items ≡ out.old.items ++ standing_text (G.forest grove.now) tree) }
-    ensures err { OnErr result (Begins out.old.items out.new.items) }
+    ensures err { OnErr result (Extends out.old.items out.new.items) }
 {
     match grove.tree(tree) {
         None => {
@@ -114,7 +114,7 @@ pub(crate) fn put_dump<G: Grove>(
     out: &mut Bytes,
 ) -> Result<(), AllocError>
     ensures ok { OnOk result (out.new.items ≡ out.old.items ++ flat_map (standing_text (G.forest grove.now)) trees.now) }
-    ensures err { OnErr result (Begins out.old.items out.new.items) }
+    ensures err { OnErr result (Extends out.old.items out.new.items) }
 {
     for tree in trees {
         put_standing(alloc, grove, *tree, out)?;

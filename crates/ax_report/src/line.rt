@@ -3,7 +3,7 @@ ghost use Rattle.std.specs.Prelude.{◌≡◌, ◌++◌, IfOk, OnOk, OnErr, stri
 ghost use Rattle.std.specs.List.{flat_map};
 ghost use Rattle.ax_ask.specs.declared.line.Line.TheVariants as lines;
 ghost use Rattle.ax_run_rules.specs.LineText.{update_line, pass_text, event_node, event_line, verdict_text, line_text};
-ghost use Rattle.ax_report.specs.Buffers.{Begins};
+ghost use Rattle.ax_report.specs.Buffers.{Extends};
 
 use crate::Bytes;
 use crate::names::{data_text, ok_or_gone, touch_name};
@@ -116,7 +116,7 @@ fn delivered_text(alloc: Global, tree: TreeId, token: Token) -> Result<String, A
 #[tactic(auto, unfolding(ax_run_rules::specs::LineText::update_line), using(crate::proofs::BufferLemmas::begins))]
 fn put_update(alloc: Global, update: &UpdateNote, out: &mut Bytes) -> Result<(), AllocError>
     ensures ok { OnOk result (out.new.items ≡ out.old.items ++ update_line update.now) }
-    ensures err { OnErr result (Begins out.old.items out.new.items) }
+    ensures err { OnErr result (Extends out.old.items out.new.items) }
 {
     let clear = node_number(update.clear);
     let root = node_number(update.root);
@@ -131,7 +131,7 @@ fn put_update(alloc: Global, update: &UpdateNote, out: &mut Bytes) -> Result<(),
 
 fn put_updates(alloc: Global, updates: &[UpdateNote], out: &mut Bytes) -> Result<(), AllocError>
     ensures ok { OnOk result (out.new.items ≡ out.old.items ++ flat_map update_line updates.now) }
-    ensures err { OnErr result (Begins out.old.items out.new.items) }
+    ensures err { OnErr result (Extends out.old.items out.new.items) }
 {
     for update in updates {
         put_update(alloc, update, out)?;
@@ -142,7 +142,7 @@ fn put_updates(alloc: Global, updates: &[UpdateNote], out: &mut Bytes) -> Result
 #[tactic(auto, unfolding(ax_run_rules::specs::LineText::pass_text), using(crate::proofs::BufferLemmas::begins))]
 fn put_pass(alloc: Global, note: &PassNote, out: &mut Bytes) -> Result<(), AllocError>
     ensures ok { OnOk result (out.new.items ≡ out.old.items ++ pass_text note.now) }
-    ensures err { OnErr result (Begins out.old.items out.new.items) }
+    ensures err { OnErr result (Extends out.old.items out.new.items) }
 {
     match note {
         PassNote::Nothing => put(out, "nothing\n"),
@@ -168,7 +168,7 @@ fn put_passed(
     out: &mut Bytes,
 ) -> Result<(), AllocError>
     ensures ok { OnOk result (out.new.items ≡ out.old.items ++ line_text (lines.Passed tree note.now)) }
-    ensures err { OnErr result (Begins out.old.items out.new.items) }
+    ensures err { OnErr result (Extends out.old.items out.new.items) }
 {
     let tree = tree.get();
     put(out, &format!(in alloc; "f{tree} pass ")?)?;
@@ -199,7 +199,7 @@ fn event_text(alloc: Global, event: Event) -> Result<String, AllocError>
 
 fn put_events(alloc: Global, events: &[Event], out: &mut Bytes) -> Result<(), AllocError>
     ensures ok { OnOk result (out.new.items ≡ out.old.items ++ flat_map event_line events.now) }
-    ensures err { OnErr result (Begins out.old.items out.new.items) }
+    ensures err { OnErr result (Extends out.old.items out.new.items) }
 {
     for event in events {
         put(out, &event_text(alloc, *event)?)?;
@@ -210,7 +210,7 @@ fn put_events(alloc: Global, events: &[Event], out: &mut Bytes) -> Result<(), Al
 #[tactic(auto, unfolding(ax_run_rules::specs::LineText::verdict_text), using(crate::proofs::BufferLemmas::begins))]
 fn put_verdict(alloc: Global, verdict: &Verdict, out: &mut Bytes) -> Result<(), AllocError>
     ensures ok { OnOk result (out.new.items ≡ out.old.items ++ verdict_text verdict.now) }
-    ensures err { OnErr result (Begins out.old.items out.new.items) }
+    ensures err { OnErr result (Extends out.old.items out.new.items) }
 {
     match verdict {
         Verdict::Applied { pass, events } => {
@@ -238,7 +238,7 @@ fn put_received(
     out: &mut Bytes,
 ) -> Result<(), AllocError>
     ensures ok { OnOk result (out.new.items ≡ out.old.items ++ line_text (lines.Received tree verdict.now)) }
-    ensures err { OnErr result (Begins out.old.items out.new.items) }
+    ensures err { OnErr result (Extends out.old.items out.new.items) }
 {
     let tree = tree.get();
     put(out, &format!(in alloc; "a{tree} ")?)?;
@@ -254,7 +254,7 @@ fn put_answered(
     out: &mut Bytes,
 ) -> Result<(), AllocError>
     ensures ok { OnOk result (out.new.items ≡ out.old.items ++ line_text (lines.Answered reader query reply.now)) }
-    ensures err { OnErr result (Begins out.old.items out.new.items) }
+    ensures err { OnErr result (Extends out.old.items out.new.items) }
 {
     let query = query.name();
     put(out, &format!(in alloc; "r{reader} {query} = ")?)?;
@@ -265,7 +265,7 @@ fn put_answered(
 
 pub(crate) fn put_line(alloc: Global, line: &Line, out: &mut Bytes) -> Result<(), AllocError>
     ensures ok { OnOk result (out.new.items ≡ out.old.items ++ line_text line.now) }
-    ensures err { OnErr result (Begins out.old.items out.new.items) }
+    ensures err { OnErr result (Extends out.old.items out.new.items) }
 {
     match line {
         Line::Edited {

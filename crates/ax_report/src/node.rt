@@ -5,7 +5,7 @@ ghost use Rattle.ax_node.specs.Look.{look_of, blank_area};
 ghost use Rattle.ax_rules.specs.Looks.{same_area};
 ghost use Rattle.ax_run_rules.specs.Writing.{◌⌢◌, area_text};
 ghost use Rattle.ax_run_rules.specs.Dump.{end_text, tree_line, value_text, state_text, attr_text, look_text};
-ghost use Rattle.ax_report.specs.Buffers.{Begins};
+ghost use Rattle.ax_report.specs.Buffers.{Extends};
 ghost use Rattle.ax_report.specs.Walks.{area_part, trees_part, focus_part, ends_part};
 
 use crate::Bytes;
@@ -67,7 +67,7 @@ pub(crate) fn put_tree_line(
     out: &mut Bytes,
 ) -> Result<(), AllocError>
     ensures ok { OnOk result (out.new.items ≡ out.old.items ++ tree_line about.now) }
-    ensures err { OnErr result (Begins out.old.items out.new.items) }
+    ensures err { OnErr result (Extends out.old.items out.new.items) }
 {
     put(out, &trees_part(alloc, about)?)?;
     put(out, &focus_part(alloc, about)?)?;
@@ -81,7 +81,7 @@ pub(crate) fn put_tree_line(
 
 fn put_value(alloc: Global, value: &Value, out: &mut Bytes) -> Result<(), AllocError>
     ensures ok { OnOk result (out.new.items ≡ out.old.items ++ value_text value.now) }
-    ensures err { OnErr result (Begins out.old.items out.new.items) }
+    ensures err { OnErr result (Extends out.old.items out.new.items) }
 {
     match value {
         Value::Text(text) => put_quoted(alloc, text, out),
@@ -101,7 +101,7 @@ fn put_value(alloc: Global, value: &Value, out: &mut Bytes) -> Result<(), AllocE
 #[tactic(auto, unfolding(ax_run_rules::specs::Dump::attr_text), using(crate::proofs::BufferLemmas::begins))]
 fn put_attr(alloc: Global, attr: &(Key, Value), out: &mut Bytes) -> Result<(), AllocError>
     ensures ok { OnOk result (out.new.items ≡ out.old.items ++ attr_text attr.now) }
-    ensures err { OnErr result (Begins out.old.items out.new.items) }
+    ensures err { OnErr result (Extends out.old.items out.new.items) }
 {
     let name = attr.0.name();
     put(out, &format!(in alloc; " {name}=")?)?;
@@ -111,7 +111,7 @@ fn put_attr(alloc: Global, attr: &(Key, Value), out: &mut Bytes) -> Result<(), A
 
 fn put_attrs(alloc: Global, attrs: &[(Key, Value)], out: &mut Bytes) -> Result<(), AllocError>
     ensures ok { OnOk result (out.new.items ≡ out.old.items ++ flat_map attr_text attrs.now) }
-    ensures err { OnErr result (Begins out.old.items out.new.items) }
+    ensures err { OnErr result (Extends out.old.items out.new.items) }
 {
     for attr in attrs {
         put_attr(alloc, attr, out)?;
@@ -122,7 +122,7 @@ fn put_attrs(alloc: Global, attrs: &[(Key, Value)], out: &mut Bytes) -> Result<(
 #[tactic(auto, unfolding(ax_run_rules::specs::Dump::state_text), using(crate::proofs::BufferLemmas::begins))]
 fn put_state(state: State, out: &mut Bytes) -> Result<(), AllocError>
     ensures ok { OnOk result (out.new.items ≡ out.old.items ++ state_text state) }
-    ensures err { OnErr result (Begins out.old.items out.new.items) }
+    ensures err { OnErr result (Extends out.old.items out.new.items) }
 {
     put(out, " +")?;
     put(out, state.name())
@@ -130,7 +130,7 @@ fn put_state(state: State, out: &mut Bytes) -> Result<(), AllocError>
 
 fn put_states(states: &[State], out: &mut Bytes) -> Result<(), AllocError>
     ensures ok { OnOk result (out.new.items ≡ out.old.items ++ flat_map state_text states.now) }
-    ensures err { OnErr result (Begins out.old.items out.new.items) }
+    ensures err { OnErr result (Extends out.old.items out.new.items) }
 {
     for state in states {
         put_state(*state, out)?;
@@ -178,7 +178,7 @@ fn area_part(alloc: Global, rect: &Rect) -> Result<String, AllocError>
 #[tactic(auto, unfolding(ax_run_rules::specs::Dump::look_text, crate::specs::Walks::area_part), using(crate::proofs::BufferLemmas::begins))]
 pub(crate) fn put_look(alloc: Global, node: &NodeData, out: &mut Bytes) -> Result<(), AllocError>
     ensures ok { OnOk result (out.new.items ≡ out.old.items ++ look_text (look_of node.now)) }
-    ensures err { OnErr result (Begins out.old.items out.new.items) }
+    ensures err { OnErr result (Extends out.old.items out.new.items) }
 {
     put(out, &area_part(alloc, &node.rect)?)?;
     put_states(node.states.as_slice(), out)?;

@@ -2,7 +2,7 @@
 ghost use Rattle.std.specs.Prelude.{◌≡◌, ◌++◌, IfOk, OnOk, OnErr, string_bytes};
 ghost use Rattle.std.specs.List.{flat_map};
 ghost use Rattle.ax_run_rules.specs.ReplayText.{item_text, order_text};
-ghost use Rattle.ax_report.specs.Buffers.{Begins};
+ghost use Rattle.ax_report.specs.Buffers.{Extends};
 ghost use Rattle.ax_report.specs.Strings.{item_after};
 
 use crate::Bytes;
@@ -36,7 +36,7 @@ fn item_text(alloc: Global, item: Item) -> Result<String, AllocError>
 #[tactic(auto, unfolding(crate::specs::Strings::item_after), using(crate::proofs::BufferLemmas::begins))]
 fn put_item_after(alloc: Global, item: Item, out: &mut Bytes) -> Result<(), AllocError>
     ensures ok { OnOk result (out.new.items ≡ out.old.items ++ item_after item) }
-    ensures err { OnErr result (Begins out.old.items out.new.items) }
+    ensures err { OnErr result (Extends out.old.items out.new.items) }
 {
     put(out, " ")?;
     put(out, &item_text(alloc, item)?)
@@ -44,7 +44,7 @@ fn put_item_after(alloc: Global, item: Item, out: &mut Bytes) -> Result<(), Allo
 
 fn put_items_after(alloc: Global, items: &[Item], out: &mut Bytes) -> Result<(), AllocError>
     ensures ok { OnOk result (out.new.items ≡ out.old.items ++ flat_map item_after items.now) }
-    ensures err { OnErr result (Begins out.old.items out.new.items) }
+    ensures err { OnErr result (Extends out.old.items out.new.items) }
 {
     for item in items {
         put_item_after(alloc, *item, out)?;
@@ -55,7 +55,7 @@ fn put_items_after(alloc: Global, items: &[Item], out: &mut Bytes) -> Result<(),
 #[tactic(auto, unfolding(ax_run_rules::specs::ReplayText::order_text, crate::specs::Strings::item_after), using(crate::proofs::BufferLemmas::begins))]
 pub(crate) fn put_order(alloc: Global, items: &[Item], out: &mut Bytes) -> Result<(), AllocError>
     ensures ok { OnOk result (out.new.items ≡ out.old.items ++ order_text items.now) }
-    ensures err { OnErr result (Begins out.old.items out.new.items) }
+    ensures err { OnErr result (Extends out.old.items out.new.items) }
 {
     match items.split_first() {
         None => Ok(()),

@@ -5,7 +5,7 @@ ghost use Rattle.std.specs.Prelude.{◌≡◌, ◌<◌, ◌++◌, IfOk, OnOk, On
 ghost use Rattle.std.specs.List.{flat_map};
 ghost use Rattle.ax_run_rules.specs.Writing.{control_text, listing, quoted, quoted_scalar};
 ghost use Rattle.std.specs.Fmt.{decimal};
-ghost use Rattle.ax_report.specs.Buffers.{Begins};
+ghost use Rattle.ax_report.specs.Buffers.{Extends};
 ghost use Rattle.ax_report.specs.Strings.{byte_text, number_after};
 
 use crate::Bytes;
@@ -14,7 +14,7 @@ use std::alloc::{AllocError, Global};
 
 pub(crate) fn put(out: &mut Bytes, text: &str) -> Result<(), AllocError>
     ensures ok { OnOk result (out.new.items ≡ out.old.items ++ text.now) }
-    ensures err { OnErr result (Begins out.old.items out.new.items) }
+    ensures err { OnErr result (Extends out.old.items out.new.items) }
 {
     out.extend_from_slice(text.as_bytes())
 }
@@ -22,7 +22,7 @@ pub(crate) fn put(out: &mut Bytes, text: &str) -> Result<(), AllocError>
 #[tactic(auto, unfolding(crate::specs::Strings::number_after), using(crate::proofs::BufferLemmas::begins))]
 fn put_number_after(alloc: Global, id: NodeId, out: &mut Bytes) -> Result<(), AllocError>
     ensures ok { OnOk result (out.new.items ≡ out.old.items ++ number_after id) }
-    ensures err { OnErr result (Begins out.old.items out.new.items) }
+    ensures err { OnErr result (Extends out.old.items out.new.items) }
 {
     let id = id.get();
     put(out, &format!(in alloc; " {id}")?)
@@ -30,7 +30,7 @@ fn put_number_after(alloc: Global, id: NodeId, out: &mut Bytes) -> Result<(), Al
 
 fn put_numbers_after(alloc: Global, ids: &[NodeId], out: &mut Bytes) -> Result<(), AllocError>
     ensures ok { OnOk result (out.new.items ≡ out.old.items ++ flat_map number_after ids.now) }
-    ensures err { OnErr result (Begins out.old.items out.new.items) }
+    ensures err { OnErr result (Extends out.old.items out.new.items) }
 {
     for id in ids {
         put_number_after(alloc, *id, out)?;
@@ -42,7 +42,7 @@ fn put_numbers_after(alloc: Global, ids: &[NodeId], out: &mut Bytes) -> Result<(
 #[tactic(auto, unfolding(crate::specs::Strings::number_after), using(crate::proofs::BufferLemmas::begins))]
 pub(crate) fn put_ids(alloc: Global, ids: &[NodeId], out: &mut Bytes) -> Result<(), AllocError>
     ensures ok { OnOk result (out.new.items ≡ out.old.items ++ listing decimal ids.now) }
-    ensures err { OnErr result (Begins out.old.items out.new.items) }
+    ensures err { OnErr result (Extends out.old.items out.new.items) }
 {
     match ids.split_first() {
         None => put(out, "-"),
@@ -66,7 +66,7 @@ fn control_text(alloc: Global, byte: u8) -> Result<String, AllocError>
 #[tactic(auto, unfolding(crate::specs::Strings::byte_text), using(crate::proofs::BufferLemmas::begins))]
 fn put_byte(alloc: Global, byte: u8, out: &mut Bytes) -> Result<(), AllocError>
     ensures ok { OnOk result (out.new.items ≡ out.old.items ++ byte_text byte) }
-    ensures err { OnErr result (Begins out.old.items out.new.items) }
+    ensures err { OnErr result (Extends out.old.items out.new.items) }
 {
     match byte {
         b'"' => put(out, "\\\""),
@@ -89,7 +89,7 @@ fn put_byte(alloc: Global, byte: u8, out: &mut Bytes) -> Result<(), AllocError>
 // A scalar that is escaped is one byte, and the bytes of every other scalar stay as they are.
 fn put_bytes(alloc: Global, bytes: &[u8], out: &mut Bytes) -> Result<(), AllocError>
     ensures ok { OnOk result (out.new.items ≡ out.old.items ++ flat_map byte_text bytes.now) }
-    ensures err { OnErr result (Begins out.old.items out.new.items) }
+    ensures err { OnErr result (Extends out.old.items out.new.items) }
 {
     for byte in bytes {
         put_byte(alloc, *byte, out)?;
@@ -100,7 +100,7 @@ fn put_bytes(alloc: Global, bytes: &[u8], out: &mut Bytes) -> Result<(), AllocEr
 /// The scalars of a text, with escapes.
 fn put_scalars(alloc: Global, text: &Text, out: &mut Bytes) -> Result<(), AllocError>
     ensures ok { OnOk result (out.new.items ≡ out.old.items ++ encode_utf8_all (flat_map quoted_scalar text.now)) }
-    ensures err { OnErr result (Begins out.old.items out.new.items) }
+    ensures err { OnErr result (Extends out.old.items out.new.items) }
 {
     let bytes = text.as_str().as_bytes();
     put_bytes(alloc, bytes, out)
@@ -110,7 +110,7 @@ fn put_scalars(alloc: Global, text: &Text, out: &mut Bytes) -> Result<(), AllocE
 #[tactic(auto, unfolding(ax_run_rules::specs::Writing::quoted), using(crate::proofs::BufferLemmas::begins))]
 pub(crate) fn put_quoted(alloc: Global, text: &Text, out: &mut Bytes) -> Result<(), AllocError>
     ensures ok { OnOk result (out.new.items ≡ out.old.items ++ quoted text.now) }
-    ensures err { OnErr result (Begins out.old.items out.new.items) }
+    ensures err { OnErr result (Extends out.old.items out.new.items) }
 {
     put(out, "\"")?;
     put_scalars(alloc, text, out)?;

@@ -3,7 +3,7 @@ ghost use Rattle.std.specs.Prelude.{◌≡◌, ◌++◌, IfOk, OnOk, OnErr, stri
 ghost use Rattle.std.specs.List.{flat_map};
 ghost use Rattle.ax_run_rules.specs.Writing.{listing, place_text, area_text};
 ghost use Rattle.ax_run_rules.specs.ReplyText.{pos_text, reply_text};
-ghost use Rattle.ax_report.specs.Buffers.{Begins};
+ghost use Rattle.ax_report.specs.Buffers.{Extends};
 ghost use Rattle.ax_report.specs.Strings.{place_after};
 
 use crate::Bytes;
@@ -46,7 +46,7 @@ fn pos_text(alloc: Global, pos: Pos) -> Result<String, AllocError>
 #[tactic(auto, unfolding(crate::specs::Strings::place_after), using(crate::proofs::BufferLemmas::begins))]
 fn put_place_after(alloc: Global, place: Place, out: &mut Bytes) -> Result<(), AllocError>
     ensures ok { OnOk result (out.new.items ≡ out.old.items ++ place_after place) }
-    ensures err { OnErr result (Begins out.old.items out.new.items) }
+    ensures err { OnErr result (Extends out.old.items out.new.items) }
 {
     put(out, " ")?;
     put(out, &place_text(alloc, place)?)
@@ -54,7 +54,7 @@ fn put_place_after(alloc: Global, place: Place, out: &mut Bytes) -> Result<(), A
 
 fn put_places_after(alloc: Global, places: &[Place], out: &mut Bytes) -> Result<(), AllocError>
     ensures ok { OnOk result (out.new.items ≡ out.old.items ++ flat_map place_after places.now) }
-    ensures err { OnErr result (Begins out.old.items out.new.items) }
+    ensures err { OnErr result (Extends out.old.items out.new.items) }
 {
     for place in places {
         put_place_after(alloc, *place, out)?;
@@ -66,7 +66,7 @@ fn put_places_after(alloc: Global, places: &[Place], out: &mut Bytes) -> Result<
 #[tactic(auto, unfolding(crate::specs::Strings::place_after), using(crate::proofs::BufferLemmas::begins))]
 fn put_places(alloc: Global, places: &[Place], out: &mut Bytes) -> Result<(), AllocError>
     ensures ok { OnOk result (out.new.items ≡ out.old.items ++ listing place_text places.now) }
-    ensures err { OnErr result (Begins out.old.items out.new.items) }
+    ensures err { OnErr result (Extends out.old.items out.new.items) }
 {
     match places.split_first() {
         None => put(out, "-"),
@@ -81,7 +81,7 @@ fn put_places(alloc: Global, places: &[Place], out: &mut Bytes) -> Result<(), Al
 #[tactic(auto, unfolding(ax_run_rules::specs::ReplyText::reply_text), using(crate::proofs::BufferLemmas::begins))]
 pub(crate) fn put_reply(alloc: Global, reply: &Reply, out: &mut Bytes) -> Result<(), AllocError>
     ensures ok { OnOk result (out.new.items ≡ out.old.items ++ reply_text reply.now) }
-    ensures err { OnErr result (Begins out.old.items out.new.items) }
+    ensures err { OnErr result (Extends out.old.items out.new.items) }
 {
     match reply {
         Reply::Place(place) => put(out, &place_text(alloc, *place)?),

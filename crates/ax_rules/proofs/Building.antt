@@ -98,7 +98,7 @@ by_tree t all p old at xs back true v good e h low moves =
 by_tree t all p old at xs back false v good e h low moves = stays t all at (length (xs ++ [])) old h (subst (λ l. at ≤ length l) (sym (append-nil xs)) low)
 
 -- the built tree is the source at the last applied pass, which is one of the packets received so far
-pub record Stands (t : ℕ) (all : List Packet) (before : List HEntry) : Type 0 where
+pub record BuildStands (t : ℕ) (all : List Packet) (before : List HEntry) : Type 0 where
   pub built : built_of before t ≡ source_at t all (applied_pass before t)
   pub low : applied_pass before t ≤ length (got before t)
 
@@ -106,13 +106,13 @@ abbrev Taken : ℕ → List Packet → List HEntry → HEntry → Type 0
 Taken t all before e =
     Moved t all (applied_pass before t) (length (got before t ++ filter_map (packet_in t) (e ∷ []))) (built_after t before (built_of before t) e) (at_after t before (applied_pass before t) e)
 
-nothing_got : (t : ℕ) (all : List Packet) (before : List HEntry) → Stands t all before
+nothing_got : (t : ℕ) (all : List Packet) (before : List HEntry) → BuildStands t all before
     → Moved t all (applied_pass before t) (length (got before t ++ [])) (built_of before t) (applied_pass before t)
 nothing_got t all before s =
     stays t all (applied_pass before t) (length (got before t ++ [])) (built_of before t) s.built (subst (λ l. applied_pass before t ≤ length l) (sym (append-nil (got before t))) s.low)
 
 entry_taken : (t : ℕ) (all : List Packet) (before : List HEntry) (e : HEntry) (back : List Packet) → IsGood t all
-    → all ≡ (got before t ++ filter_map (packet_in t) (e ∷ [])) ++ back → Stands t all before → Taken t all before e
+    → all ≡ (got before t ++ filter_map (packet_in t) (e ∷ [])) ++ back → BuildStands t all before → Taken t all before e
 entry_taken t all before (Got p) back good e s =
     subst (λ l. Moved t all (applied_pass before t) (length (got before t ++ l)) (built_after t before (built_of before t) (Got p)) (at_after t before (applied_pass before t) (Got p)))
     (sym (got_kept t p))
@@ -128,7 +128,7 @@ unfolding got
 got_one before e t = got-append before (e ∷ []) t
 
 record Stepped (t : ℕ) (all : List Packet) (before after : List HEntry) : Type 0 where
-  stands : Stands t all after
+  stands : BuildStands t all after
   rises : applied_pass before t ≤ applied_pass after t
 
 stepped : (t : ℕ) (all : List Packet) (before : List HEntry) (e : HEntry) → Taken t all before e → Stepped t all before (before ++ e ∷ [])
@@ -142,7 +142,7 @@ stepped t all before e m = record {
 }
 
 one_step : (t : ℕ) (all : List Packet) (before : List HEntry) (e : HEntry) (back : List Packet) → IsGood t all
-    → all ≡ got (before ++ e ∷ []) t ++ back → Stands t all before → Stepped t all before (before ++ e ∷ [])
+    → all ≡ got (before ++ e ∷ []) t ++ back → BuildStands t all before → Stepped t all before (before ++ e ∷ [])
 one_step t all before e back good h s = stepped t all before e (entry_taken t all before e back good (h ∙ ap (λ l. l ++ back) (got_one before e t)) s)
 
 -- ---- all entries
@@ -155,7 +155,7 @@ after_one t before e rest back =
 both : (t : ℕ) (all : List Packet) (a b c : List HEntry) → Stepped t all a b → Stepped t all b c → Stepped t all a c
 both t all a b c h k = record { stands = k.stands; rises = le_trans h.rises k.rises }
 
-walk : (t : ℕ) (all : List Packet) (before rest : List HEntry) (back : List Packet) → IsGood t all → all ≡ got (before ++ rest) t ++ back → Stands t all before
+walk : (t : ℕ) (all : List Packet) (before rest : List HEntry) (back : List Packet) → IsGood t all → all ≡ got (before ++ rest) t ++ back → BuildStands t all before
     → Stepped t all before (before ++ rest)
 walk t all before [] back good h s = subst (λ l. Stepped t all before l) (sym (append-nil before)) (record { stands = s; rises = le_refl (applied_pass before t) })
 walk t all before (e ∷ rest) back good h s =
@@ -163,11 +163,11 @@ walk t all before (e ∷ rest) back good h s =
     let more = walk t all (before ++ e ∷ []) rest back good (h ∙ ap (λ l. got l t ++ back) (sym (append_assoc before (e ∷ []) rest))) one.stands in
     subst (λ l. Stepped t all before l) (append_assoc before (e ∷ []) rest) (both t all before (before ++ e ∷ []) ((before ++ e ∷ []) ++ rest) one more)
 
-stands_first : (t : ℕ) (all : List Packet) → Stands t all []
+stands_first : (t : ℕ) (all : List Packet) → BuildStands t all []
 unfolding built_of applied_pass got
 stands_first t all = record { built = refl; low = le_refl 0 }
 
-stands_after : (t : ℕ) (all : List Packet) (h : List HEntry) (back : List Packet) → IsGood t all → all ≡ got h t ++ back → Stands t all h
+stands_after : (t : ℕ) (all : List Packet) (h : List HEntry) (back : List Packet) → IsGood t all → all ≡ got h t ++ back → BuildStands t all h
 stands_after t all h back good e = (walk t all [] h back good e (stands_first t all)).stands
 
 pub bundles_build : (h : List HEntry) (t : ℕ) → IsGood t (got h t) → built_of h t ≡ mirror_of h t
@@ -206,7 +206,7 @@ pass_then h p o =
     applied_pass-append h (Got p) p.tree
     ∙ (ap (λ b. if b then pass_after (applied_pass h p.tree) (verdict_at h (applied_pass h p.tree) p []) else applied_pass h p.tree) (same_tree p.tree) ∙ pass_of_open h p o)
 
-got_then : (h : List HEntry) (p : Packet) → got (h ++ Got p ∷ []) p.tree ≡ got h p.tree ++ p ∷ []
+pub got_then : (h : List HEntry) (p : Packet) → got (h ++ Got p ∷ []) p.tree ≡ got h p.tree ++ p ∷ []
 got_then h p = got_one h (Got p) p.tree ∙ ap (λ l. got h p.tree ++ l) (got_kept p.tree p ∙ ap (λ b. kept b p) (same_tree p.tree))
 
 -- the packet after those received so far

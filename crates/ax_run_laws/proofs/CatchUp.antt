@@ -146,13 +146,13 @@ reset t n j = record {
   token = ap (λ (f : Frame). f.token) (frame_of-append t j (delivered n));
 }
 
-pending_reset : (a b c : Bool) → a ≡ false → b ≡ true → (not a && (b || c)) ≡ true
+pub pending_reset : (a b c : Bool) → a ≡ false → b ≡ true → (not a && (b || c)) ≡ true
 pending_reset a b c h k = rw (h, k) refl
 
 idle_after : (a : Bool) → a ≡ false → (not a && (a || (not true || false))) ≡ false
 idle_after a h = rw h refl
 
-token_after : (h : List HEntry) (t : ℕ) → is_gone h t ≡ false → token_of (h ++ Asked t ∷ []) t ≡ next_token h t
+pub token_after : (h : List HEntry) (t : ℕ) → is_gone h t ≡ false → token_of (h ++ Asked t ∷ []) t ≡ next_token h t
 token_after h t n =
     token-append h (Asked t) t
     ∙ (ap (λ b. cond b (token_of h t) (token_of h t + length (filter (asks t) (Asked t ∷ [])))) n
@@ -185,7 +185,7 @@ p4 f n = packet_at f.tree (frame_of f.tree (f2 f n).journal)
 abbrev h4 : List HEntry → FrameRun → ℕ → List HEntry
 h4 h f n = (h ++ Asked f.tree ∷ []) ++ Got (p4 f n) ∷ []
 
-one_sent : (b : Bool) (p : Packet) → b ≡ true → option_to_list (if b then Some p else None) ≡ p ∷ []
+pub one_sent : (b : Bool) (p : Packet) → b ≡ true → option_to_list (if b then Some p else None) ≡ p ∷ []
 one_sent b p h = rw h refl
 
 sent_one : (f : FrameRun) (n : ℕ) → is_bare (frame_of f.tree f.journal).source.trees ≡ false → sent_now f n ≡ p4 f n ∷ []

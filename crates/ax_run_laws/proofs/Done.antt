@@ -1,5 +1,5 @@
 -- After the finale's first step each frame's operations are done, and after its third the browser's.
-use Rattle.std.proofs.Common.{ℕ, zero, suc, ◌+◌, ◌≡◌, ◌≤◌, ◌==◌, Bool, true, false, if◌then◌else◌, List, [], ◌∷◌, ◌++◌, length, map, find, flat_map, replicate, refl, ap, ◌∙◌, subst, Option, Some, None, arith, option_and_then, option_map}
+use Rattle.std.proofs.Common.{ℕ, zero, suc, ◌+◌, ◌≡◌, ◌≤◌, ◌==◌, Bool, true, false, if◌then◌else◌, List, [], ◌∷◌, ◌++◌, length, map, find, flat_map, replicate, refl, ap, subst, Option, Some, None, arith, option_and_then, option_map}
 use Rattle.std.proofs.lemmas.Bool.{eqb-true}
 use Rattle.ax_ask.specs.declared.op.FrameOp.{FrameOp}
 use Rattle.ax_ask.specs.declared.op.BrowserOp.{BrowserOp}
@@ -13,7 +13,7 @@ use Rattle.ax_run_rules.specs.FrameSteps.{do_op}
 use Rattle.ax_run_rules.specs.Steps.{next_token, do_ask, do_browser, do_deliver, do_next_op, do_next_browser, step, run}
 use Rattle.ax_run_rules.specs.Finale.{ops_left, delivery_of, serve}
 use Rattle.ax_run_laws.proofs.Found.{of_tree, replaced, found_in, other_in, same_in}
-use Rattle.ax_run_laws.proofs.Quiet.{AllRun, next}
+use Rattle.ax_run_laws.proofs.Quiet.{AllRun, next, there, none_left}
 
 -- ---- the frames' operations
 
@@ -60,9 +60,6 @@ op_fewer : (r : Run) (f : FrameRun) (os : List FrameOp) (t : ℕ) → f.left ≡
 unfolding do_op with_frame
 op_fewer r f [] t e found = tt
 op_fewer r f (o ∷ left) t e found = record { fewer = one_fewer r.state.frames _ f t found (ap length e) }
-
-there : (t : ℕ) (fs : List FrameRun) (f : FrameRun) → find (of_tree t) fs ≡ Some f → find (of_tree f.tree) fs ≡ Some f
-there t fs f e = ap (λ u. find (of_tree u) fs) (found_in t fs f e) ∙ e
 
 turn_fewer : (r : Run) (u t : ℕ) (o : Option FrameRun) → find (of_tree u) r.state.frames ≡ o
     → AllRun (Fewer t (if u == t then 1 else 0) (lefts r.state.frames t)) (option_and_then (λ (f : FrameRun). do_next_op r f f.left) o)
@@ -128,10 +125,6 @@ enough_turns t (f ∷ fs) = go (f.tree == t) refl (enough_turns t fs)
         → left_of (if b then Some f else find (of_tree t) fs) ≤ turns t (turns_of f ++ flat_map turns_of fs)
     go true e h = let s = turns-append t (turns_of f) (flat_map turns_of fs) in let c = count_turns (length f.left) f.tree t e in omega (arith, s, c)
     go false e h = let s = turns-append t (turns_of f) (flat_map turns_of fs) in omega (arith, s, h)
-
-none_left : {A : Type 0} (xs : List A) → length xs ≡ 0 → xs ≡ []
-none_left [] e = refl
-none_left (x ∷ xs) e = absurd (cc)
 
 pub record AllDone (r : Run) : Type 0 where
   pub at : (t : ℕ) (f : FrameRun) → find (of_tree t) r.state.frames ≡ Some f → f.left ≡ []

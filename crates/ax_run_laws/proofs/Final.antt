@@ -25,7 +25,7 @@ use Rattle.ax_run_laws.proofs.ByTree.{Each, each_first, one_of}
 use Rattle.ax_run_laws.proofs.Held.{FrameHeld, Held, AllHeld, begin_held, run_held}
 use Rattle.ax_run_laws.proofs.Quiet.{AllRun, next}
 use Rattle.ax_run_laws.proofs.CatchUp.{CaughtUp, Up, mirror_same, finale_up, finale_held}
-use Rattle.ax_run_laws.proofs.Kept.{Keeps, Kept, run_kept, serve_kept, catch_up_kept}
+use Rattle.ax_run_laws.proofs.Kept.{KeepsRuns, Kept, run_kept, serve_kept, catch_up_kept}
 use Rattle.ax_run_laws.proofs.Done.{AllDone, ops_done, NoneLeft, browser_done}
 use Rattle.ax_run_laws.proofs.Rooted.{no_packets, source_of-append}
 
@@ -40,7 +40,7 @@ AnyList os = Unit {0}
 abbrev pub NoList : List TimedOp → Type 0
 NoList os = os ≡ []
 
-ahead_keeps : (G : ℕ → Tree) → Keeps (Ahead G) AnyList
+ahead_keeps : (G : ℕ → Tree) → KeepsRuns (Ahead G) AnyList
 ahead_keeps G = record {
   op = λ t f o left ps l h.
       ap (source_from (map entry_of left)) (source_of-append t f.journal (entry_of o)) ∙ (ap (λ os. source_from (map entry_of os) (source_of t f.journal)) (sym l) ∙ h);
@@ -57,7 +57,7 @@ Arrived G t f = (f.left ≡ []) × (source_of t f.journal ≡ G t)
 none_there : {A : Type 0} (x : A) (xs ys : List A) → ys ≡ [] → ys ≡ x ∷ xs → ⊥
 none_there x xs ys h k = cc
 
-arrived_keeps : (G : ℕ → Tree) (B : List TimedOp → Type 0) → ((o : TimedOp) (left : List TimedOp) → B (o ∷ left) → B left) → Keeps (Arrived G) B
+arrived_keeps : (G : ℕ → Tree) (B : List TimedOp → Type 0) → ((o : TimedOp) (left : List TimedOp) → B (o ∷ left) → B left) → KeepsRuns (Arrived G) B
 arrived_keeps G B b = record {
   op = λ t f o left ps l h. absurd (none_there o left f.left h.0 l);
   pass = λ t f ps h. (h.0, source_of-append t f.journal entries.Passed ∙ h.1);
@@ -90,10 +90,10 @@ module _ (G : ℕ → Tree) (d : ℕ → Bool) (ts : List ℕ) where
   over : (r : Run) → Come r → NoneLeft r → Ended r
   over r k n = record { frames = k.frames; browser = n.none; ended = k.ended; trees = k.trees }
 
-  come_keeps : Keeps (Arrived G) AnyList
+  come_keeps : KeepsRuns (Arrived G) AnyList
   come_keeps = arrived_keeps G AnyList (λ o left b. tt)
 
-  over_keeps : Keeps (Arrived G) NoList
+  over_keeps : KeepsRuns (Arrived G) NoList
   over_keeps = arrived_keeps G NoList (λ o left b. absurd (none_there o left (o ∷ left) b refl))
 
   pub finale_ended : (r : Run) → Going r → AllRun Ended (finale_of r)

@@ -24,7 +24,7 @@ use Rattle.ax_run_laws.proofs.Found.{of_tree, replaced, found_in, each_found}
 use Rattle.ax_run_laws.proofs.Quiet.{AllRun, next}
 
 -- a property of a tree's frame that each step keeps, and one of the browser's list
-pub record Keeps (P : ℕ → FrameRun → Type 0) (B : List TimedOp → Type 0) : Type 0 where
+pub record KeepsRuns (P : ℕ → FrameRun → Type 0) (B : List TimedOp → Type 0) : Type 0 where
   pub op : (t : ℕ) (f : FrameRun) (o : FrameOp) (left : List FrameOp) (ps : List Packet) → f.left ≡ o ∷ left → P t f
       → P t (record { tree = f.tree; left = left; journal = f.journal ++ entry_of o ∷ []; waiting = ps })
   pub pass : (t : ℕ) (f : FrameRun) (ps : List Packet) → P t f → P t (record { tree = f.tree; left = f.left; journal = f.journal ++ entries.Passed ∷ []; waiting = ps })
@@ -56,7 +56,7 @@ not_ended h e t n = is_gone-append h e t ∙ (ap (λ b. is_gone h t || b) n ∙ 
     or_false true = refl
     or_false false = refl
 
-module _ (P : ℕ → FrameRun → Type 0) (B : List TimedOp → Type 0) (d : ℕ → Bool) (ts : List ℕ) (keeps : Keeps P B) where
+module _ (P : ℕ → FrameRun → Type 0) (B : List TimedOp → Type 0) (d : ℕ → Bool) (ts : List ℕ) (keeps : KeepsRuns P B) where
   abbrev K : Run → Type 0
   K r = Kept P B d ts r
 

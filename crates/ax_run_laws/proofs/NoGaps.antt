@@ -38,7 +38,7 @@ use Rattle.ax_rules.proofs.Building.{pass_then}
 use Rattle.ax_run_laws.specs.Laws.{IsAsked, TokensAsked, is_gap, is_gap_verdict}
 use Rattle.ax_run_laws.proofs.Found.{of_tree, found_in, same_number, each_found}
 use Rattle.ax_run_laws.proofs.Held.{AllOf, FrameHeld, Held, AllHeld, step_held, begin_held, start_found, got_own, got_other}
-use Rattle.ax_run_laws.proofs.Quiet.{AllRun}
+use Rattle.ax_run_laws.proofs.Quiet.{AllRun, there}
 use Rattle.ax_run_laws.proofs.Gaps.{Link, LinkedFrom, final, linked_at, final-push, linked, LowEntry, LowEntries, LowPackets, low_push, higher, low_made, low_final}
 
 -- where the tree is live and the last packet has its token, that packet was applied
@@ -119,9 +119,6 @@ op_no_gap t f (ops.Edit e) = edit_no_gap t f.source e
 op_no_gap t f (ops.Touch z) = refl
 op_no_gap t f (ops.TouchBelow z) = refl
 op_no_gap t f ops.Pass = refl
-
-there : (t : ℕ) (fs : List FrameRun) (f : FrameRun) → find (of_tree t) fs ≡ Some f → find (of_tree f.tree) fs ≡ Some f
-there t fs f e = ap (λ u. find (of_tree u) fs) (found_in t fs f e) ∙ e
 
 pub op_sound : (r : Run) (f : FrameRun) (os : List FrameOp) → find (of_tree f.tree) r.state.frames ≡ Some f → Sound r → AllRun Quietly (do_next_op r f os)
 unfolding do_op with_frame

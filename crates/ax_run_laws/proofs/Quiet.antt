@@ -74,7 +74,7 @@ browser_quiet : (r : Run) (os : List TimedOp) → Quiet r.state.frames → AllQu
 browser_quiet r [] q = tt
 browser_quiet r (o ∷ left) q = browser_op_quiet (record r { state = record r.state { browser = left } }) o.op q
 
-there : (t : ℕ) (fs : List FrameRun) (f : FrameRun) → find (of_tree t) fs ≡ Some f → find (of_tree f.tree) fs ≡ Some f
+pub there : (t : ℕ) (fs : List FrameRun) (f : FrameRun) → find (of_tree t) fs ≡ Some f → find (of_tree f.tree) fs ≡ Some f
 there t fs f e = ap (λ u. find (of_tree u) fs) (found_in t fs f e) ∙ e
 
 delivery_quiet : (r : Run) (f : FrameRun) (t n : ℕ) → find (of_tree t) r.state.frames ≡ Some f → Quiet r.state.frames → Quiet (do_deliver r f n).state.frames
@@ -241,7 +241,7 @@ left_enough t (f ∷ fs) = go (f.tree == t) refl (left_enough t fs)
     go true e h = let s = receives_both t (receipts_of f) (flat_map receipts_of fs) in let c = count_receipts (length f.waiting) f.tree t e in omega (arith, s, c)
     go false e h = let s = receives_both t (receipts_of f) (flat_map receipts_of fs) in omega (arith, s, h)
 
-none_left : {A : Type 0} (xs : List A) → length xs ≡ 0 → xs ≡ []
+pub none_left : {A : Type 0} (xs : List A) → length xs ≡ 0 → xs ≡ []
 none_left [] e = refl
 none_left (x ∷ xs) e = absurd (cc)
 

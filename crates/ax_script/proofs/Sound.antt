@@ -41,7 +41,7 @@ use Rattle.ax_script.specs.Readers.{readers_of}
 use Rattle.ax_script.specs.Order.{pieces_from, digits_to, number_to, tree_named, token_named, token_after, delivery_at, delivery, reader_named, item_of, or_bad, items_after, order_of}
 use Rattle.ax_script.specs.Drafts.{version_of, draft_from, draft_one, draft_two, draft_of, is_version_one}
 use Rattle.ax_script.specs.Script.{json_of, from_json, drafted, finished, ops_count, with_order, script, GivesScript}
-use Rattle.ax_script.specs.Sound.{HasLeaves, HasItem, IsSound}
+use Rattle.ax_script.specs.Sound.{HasLeaves, HasItem, IsSoundScript}
 
 -- ---- choices
 
@@ -148,20 +148,20 @@ frame_read v taken d =
     then (Fresh taken) (known (codes "tree" ∷ codes "ops" ∷ []) d) _ (λ _. then (Fresh taken) (required tree_id (codes "tree") (get (codes "tree") d)) _
     (λ t. either_way (Fresh taken) (taken t) _ _ (λ k. tt) (λ k. then_with HaveLeaves (Fresh taken) (required (list_of (op_of v)) (codes "ops") (get (codes "ops") d)) _ (member_holds HaveLeaves (list_of (op_of v)) (codes "ops") (get (codes "ops") d) (ops_read v)) (λ ops leaves. (leaves, k)))))
 
-record Apart (fs : List FrameScript) : Type 0 where
+record FramesApart (fs : List FrameScript) : Type 0 where
   pub once : NoneTwice (trees fs)
   pub leaves : All HasLeaves fs
 
-apart_more : (fs : List FrameScript) (f : FrameScript) → Apart fs → Fresh (has_tree fs) f → Apart (fs ++ f ∷ [])
+apart_more : (fs : List FrameScript) (f : FrameScript) → FramesApart fs → Fresh (has_tree fs) f → FramesApart (fs ++ f ∷ [])
 apart_more fs f a h = record {
   once = subst NoneTwice (sym (map-append (λ (g : FrameScript). g.tree) fs (f ∷ []))) (once_push (trees fs) f.tree a.once (sym (has_contains fs f.tree) ∙ h.1));
   leaves = All-push HasLeaves fs f a.leaves h.0;
 }
 
-frames_apart : (v : Version) (earlier : List FrameScript) (items : Items) → Apart earlier → IfOk (frames_after v earlier items) Apart
+frames_apart : (v : Version) (earlier : List FrameScript) (items : Items) → FramesApart earlier → IfOk (frames_after v earlier items) FramesApart
 frames_apart v earlier no_items a = a
 frames_apart v earlier (item d ds) a =
-    then_with (Fresh (has_tree earlier)) Apart (within (place (length earlier)) (frame_of v (has_tree earlier) d)) _ (inside (Fresh (has_tree earlier)) (place (length earlier)) (frame_of v (has_tree earlier) d) (frame_read v (has_tree earlier) d)) (λ f h. frames_apart v (earlier ++ f ∷ []) ds (apart_more earlier f a h))
+    then_with (Fresh (has_tree earlier)) FramesApart (within (place (length earlier)) (frame_of v (has_tree earlier) d)) _ (inside (Fresh (has_tree earlier)) (place (length earlier)) (frame_of v (has_tree earlier) d) (frame_read v (has_tree earlier) d)) (λ f h. frames_apart v (earlier ++ f ∷ []) ds (apart_more earlier f a h))
 
 longer : {A : Type 0} (n : ℕ) (xs : List A) (x : A) → n ≤ length xs → n ≤ length (xs ++ x ∷ [])
 longer n [] x h = omega (arith, h)
@@ -184,19 +184,19 @@ both_ok P Q (Ok x) p q = (p, q)
 both_ok P Q (Err e) p q = tt
 
 abbrev Framed : List FrameScript → Type 0
-Framed fs = AtLeast 1 fs × Apart fs
+Framed fs = AtLeast 1 fs × FramesApart fs
 
 and_left : (a b : Bool) → (a && b) ≡ true → a ≡ true
 and_left true b h = refl
 and_left false b h = h
 
-none_apart : Apart []
+none_apart : FramesApart []
 none_apart = record { once = tt; leaves = All-nil HasLeaves }
 
 frames_read : (v : Version) (d : Data) → IfOk (frames_of v d) Framed
 unfolding frames_of
 frames_read v d =
-    then Framed (array_of d) _ (λ items. either_way Framed (nat_le 1 (items_len items) && nat_le (items_len items) 1000) _ _ (λ k. both_ok (AtLeast 1) Apart (frames_after v [] items) (frames_some v items (leb-true 1 (items_len items) (and_left (nat_le 1 (items_len items)) _ k))) (frames_apart v [] items none_apart)) (λ k. tt))
+    then Framed (array_of d) _ (λ items. either_way Framed (nat_le 1 (items_len items) && nat_le (items_len items) 1000) _ _ (λ k. both_ok (AtLeast 1) FramesApart (frames_after v [] items) (frames_some v items (leb-true 1 (items_len items) (and_left (nat_le 1 (items_len items)) _ k))) (frames_apart v [] items none_apart)) (λ k. tt))
 
 -- ---- drafts
 
@@ -256,12 +256,12 @@ number_above high (d ∷ ds) = some_way (λ m. 1 ≤ m) (nat_le 49 d && nat_le d
     above_too l None h = tt
     above_too l (Some m) h = omega (arith, h, l)
 
-abbrev Fits : (ℕ → Bool) → ℕ → Item → Type 0
-Fits knows readers (Frame tree) = knows tree ≡ true
-Fits knows readers (Receive tree) = knows tree ≡ true
-Fits knows readers Browser = Unit {0}
-Fits knows readers (Deliver tree token) = knows tree ≡ true
-Fits knows readers (Reader k) = (1 ≤ k) × (k ≤ readers)
+abbrev ItemFits : (ℕ → Bool) → ℕ → Item → Type 0
+ItemFits knows readers (Frame tree) = knows tree ≡ true
+ItemFits knows readers (Receive tree) = knows tree ≡ true
+ItemFits knows readers Browser = Unit {0}
+ItemFits knows readers (Deliver tree token) = knows tree ≡ true
+ItemFits knows readers (Reader k) = (1 ≤ k) × (k ≤ readers)
 
 named_known : (knows : ℕ → Bool) (digits : List ℕ) → IfSome (tree_named knows digits) (λ t. knows t ≡ true)
 named_known knows digits = then_some (λ t. 1 ≤ t) (λ t. knows t ≡ true) (λ t. cond (knows t) (Some t) None) (number_to 1000 digits) (number_above 1000 digits) (λ t q. some_way (λ t. knows t ≡ true) (knows t) (Some t) None (λ k. k) (λ k. tt))
@@ -270,22 +270,22 @@ any_some : {A : Type 0} (o : Option A) → IfSome o (λ _. Unit {0})
 any_some None = tt
 any_some (Some x) = tt
 
-after_fits : (knows : ℕ → Bool) (readers t : ℕ) (rest : List ℕ) → knows t ≡ true → IfSome (token_after t rest) (Fits knows readers)
+after_fits : (knows : ℕ → Bool) (readers t : ℕ) (rest : List ℕ) → knows t ≡ true → IfSome (token_after t rest) (ItemFits knows readers)
 after_fits knows readers t [] k = tt
-after_fits knows readers t (c ∷ digits) k = map_some (λ _. Unit {0}) (Fits knows readers) (λ (n : Token). Deliver t n) (token_named digits) (any_some (token_named digits)) (λ n u. k)
+after_fits knows readers t (c ∷ digits) k = map_some (λ _. Unit {0}) (ItemFits knows readers) (λ (n : Token). Deliver t n) (token_named digits) (any_some (token_named digits)) (λ n u. k)
 
-at_fits : (knows : ℕ → Bool) (readers : ℕ) (text : List ℕ) (found : Option ℕ) → IfSome (delivery_at knows text found) (Fits knows readers)
+at_fits : (knows : ℕ → Bool) (readers : ℕ) (text : List ℕ) (found : Option ℕ) → IfSome (delivery_at knows text found) (ItemFits knows readers)
 at_fits knows readers text None = tt
-at_fits knows readers text (Some i) = then_some (λ t. knows t ≡ true) (Fits knows readers) (λ t. token_after t (drop i text)) (tree_named knows (take i text)) (named_known knows (take i text)) (λ t k. after_fits knows readers t (drop i text) k)
+at_fits knows readers text (Some i) = then_some (λ t. knows t ≡ true) (ItemFits knows readers) (λ t. token_after t (drop i text)) (tree_named knows (take i text)) (named_known knows (take i text)) (λ t k. after_fits knows readers t (drop i text) k)
 
-reader_fits : (knows : ℕ → Bool) (readers : ℕ) (digits : List ℕ) → IfSome (reader_named readers digits) (Fits knows readers)
+reader_fits : (knows : ℕ → Bool) (readers : ℕ) (digits : List ℕ) → IfSome (reader_named readers digits) (ItemFits knows readers)
 reader_fits knows readers digits =
-    then_some (λ k. 1 ≤ k) (Fits knows readers) (λ k. cond (nat_le k readers) (Some (Reader k)) None) (number_to 16 digits) (number_above 16 digits) (λ k l. some_way (Fits knows readers) (nat_le k readers) (Some (Reader k)) None (λ e. (l, leb-true k readers e)) (λ e. tt))
+    then_some (λ k. 1 ≤ k) (ItemFits knows readers) (λ k. cond (nat_le k readers) (Some (Reader k)) None) (number_to 16 digits) (number_above 16 digits) (λ k l. some_way (ItemFits knows readers) (nat_le k readers) (Some (Reader k)) None (λ e. (l, leb-true k readers e)) (λ e. tt))
 
-item_fits : (knows : ℕ → Bool) (readers : ℕ) (word : List ℕ) → IfSome (item_of knows readers word) (Fits knows readers)
+item_fits : (knows : ℕ → Bool) (readers : ℕ) (word : List ℕ) → IfSome (item_of knows readers word) (ItemFits knows readers)
 item_fits knows readers [] = tt
 item_fits knows readers (c ∷ text) =
-    let P = Fits knows readers in
+    let P = ItemFits knows readers in
     some_way P (c == 98) _ _ (λ k. some_way P (length text == 0) (Some Browser) None (λ e. tt) (λ e. tt))
     (λ k. some_way P (c == 102) _ _ (λ e. map_some (λ t. knows t ≡ true) P (λ t. Frame t) (tree_named knows text) (named_known knows text) (λ t q. q))
     (λ k. some_way P (c == 97) _ _ (λ e. map_some (λ t. knows t ≡ true) P (λ t. Receive t) (tree_named knows text) (named_known knows text) (λ t q. q))
@@ -293,7 +293,7 @@ item_fits knows readers (c ∷ text) =
     (λ k. some_way P (c == 114) (reader_named readers text) None (λ e. reader_fits knows readers text) (λ e. tt)))))
 
 abbrev AllFit : (ℕ → Bool) → ℕ → List Item → Type 0
-AllFit knows readers items = All (Fits knows readers) items
+AllFit knows readers items = All (ItemFits knows readers) items
 
 or_bad_fits : (P : Item → Type 0) (Q : List Item → Type 0) (o : Option Item) (i : ℕ) (next : Item → Result (List Item) ℕ) → IfSome o P → ((x : Item) → P x → IfOk (next x) Q) → IfOk (or_bad o i next) Q
 or_bad_fits P Q None i next fits h = tt
@@ -302,25 +302,25 @@ or_bad_fits P Q (Some x) i next fits h = h x fits
 items_fit : (knows : ℕ → Bool) (readers : ℕ) (found : List Item) (words : List (List ℕ)) → AllFit knows readers found → IfOk (items_after knows readers found words) (AllFit knows readers)
 items_fit knows readers found [] h = h
 items_fit knows readers found (word ∷ words) h =
-    or_bad_fits (Fits knows readers) (AllFit knows readers) (item_of knows readers word) (length found + 1) _ (item_fits knows readers word) (λ x fits. items_fit knows readers (found ++ x ∷ []) words (All-push (Fits knows readers) found x h fits))
+    or_bad_fits (ItemFits knows readers) (AllFit knows readers) (item_of knows readers word) (length found + 1) _ (item_fits knows readers word) (λ x fits. items_fit knows readers (found ++ x ∷ []) words (All-push (ItemFits knows readers) found x h fits))
 
 order_fits : (knows : ℕ → Bool) (readers : ℕ) (text : List ℕ) → IfOk (order_of knows readers text) (AllFit knows readers)
-order_fits knows readers [] = All-nil (Fits knows readers)
-order_fits knows readers (c ∷ cs) = items_fit knows readers [] (pieces_from [] (c ∷ cs)) (All-nil (Fits knows readers))
+order_fits knows readers [] = All-nil (ItemFits knows readers)
+order_fits knows readers (c ∷ cs) = items_fit knows readers [] (pieces_from [] (c ∷ cs)) (All-nil (ItemFits knows readers))
 
 -- ---- scripts
 
 all_of : {A : Type 0} (P Q : A → Type 0) → ((x : A) → P x → Q x) → (xs : List A) → All P xs → All Q xs
 all_of P Q f xs h k d l = f _ (h k d l)
 
-fits_item : (s : Script) (i : Item) → Fits (has_tree s.frames) (length s.readers) i → HasItem s i
+fits_item : (s : Script) (i : Item) → ItemFits (has_tree s.frames) (length s.readers) i → HasItem s i
 fits_item s (Frame t) h = sym (has_contains s.frames t) ∙ h
 fits_item s (Receive t) h = sym (has_contains s.frames t) ∙ h
 fits_item s Browser h = tt
 fits_item s (Deliver t n) h = sym (has_contains s.frames t) ∙ h
 fits_item s (Reader k) h = h
 
-order_sound : (draft : Draft) (order : Result (List Item) ℕ) → DraftSound draft → IfOk order (AllFit (has_tree draft.frames) (length draft.readers)) → IfOk (with_order draft order) IsSound
+order_sound : (draft : Draft) (order : Result (List Item) ℕ) → DraftSound draft → IfOk order (AllFit (has_tree draft.frames) (length draft.readers)) → IfOk (with_order draft order) IsSoundScript
 order_sound draft (Err i) d h = tt
 order_sound draft (Ok items) d h = record {
   framed = d.framed.0;
@@ -328,25 +328,25 @@ order_sound draft (Ok items) d h = record {
   leaves = d.framed.1.leaves;
   named = d.named;
   acted = all_of (ActKnown (has_tree draft.frames)) _ (λ a k. sym (has_contains draft.frames a.tree) ∙ k) draft.actions d.acted;
-  ordered = all_of (Fits (has_tree draft.frames) (length draft.readers)) _ (fits_item (record { version = draft.version; frames = draft.frames; browser = draft.browser; readers = draft.readers; order = items; actions = draft.actions })) items h;
+  ordered = all_of (ItemFits (has_tree draft.frames) (length draft.readers)) _ (fits_item (record { version = draft.version; frames = draft.frames; browser = draft.browser; readers = draft.readers; order = items; actions = draft.actions })) items h;
 }
 
-finished_sound : (draft : Draft) → DraftSound draft → IfOk (finished draft) IsSound
+finished_sound : (draft : Draft) → DraftSound draft → IfOk (finished draft) IsSoundScript
 unfolding finished
-finished_sound draft d = either_way IsSound (nat_lt 1000000 (ops_count draft)) _ _ (λ k. tt) (λ k. order_sound draft _ d (order_fits (has_tree draft.frames) (length draft.readers) draft.order))
+finished_sound draft d = either_way IsSoundScript (nat_lt 1000000 (ops_count draft)) _ _ (λ k. tt) (λ k. order_sound draft _ d (order_fits (has_tree draft.frames) (length draft.readers) draft.order))
 
-drafted_sound : (r : Result Draft Refusal) → IfOk r DraftSound → IfOk (drafted r) IsSound
+drafted_sound : (r : Result Draft Refusal) → IfOk r DraftSound → IfOk (drafted r) IsSoundScript
 drafted_sound (Ok draft) h = finished_sound draft h
 drafted_sound (Err e) h = tt
 
-json_sound : (found : Option Data) → IfOk (from_json found) IsSound
+json_sound : (found : Option Data) → IfOk (from_json found) IsSoundScript
 json_sound None = tt
 json_sound (Some d) = drafted_sound (draft_of d) (draft_read d)
 
-bytes_sound : (bytes : List ℕ) → IfOk (script bytes) IsSound
+bytes_sound : (bytes : List ℕ) → IfOk (script bytes) IsSoundScript
 unfolding script
-bytes_sound bytes = either_way IsSound (nat_lt 67108864 (length bytes)) _ (from_json (json_of bytes)) (λ k. tt) (λ k. json_sound (json_of bytes))
+bytes_sound bytes = either_way IsSoundScript (nat_lt 67108864 (length bytes)) _ (from_json (json_of bytes)) (λ k. tt) (λ k. json_sound (json_of bytes))
 
-pub given_is_sound : (bytes : List ℕ) (r : Result Script ScriptErr) → GivesScript r (script bytes) → IfOk r IsSound
+pub given_is_sound : (bytes : List ℕ) (r : Result Script ScriptErr) → GivesScript r (script bytes) → IfOk r IsSoundScript
 given_is_sound bytes (Ok s) h = rw h at (bytes_sound bytes)
 given_is_sound bytes (Err e) h = tt

@@ -8,12 +8,8 @@ use Rattle.std.specs.BTreeSet.{BTreeSet, contains}
 use Rattle.std.specs.List.{list_any}
 use Rattle.std.specs.Ordering.{nat_cmp, is_eq}
 use Rattle.std.specs.Str.{IsUtf8, is_utf8}
-use Rattle.serde_json.proofs.Views.{items_len-items_view}
 use Rattle.serde_json.specs.Data.{Data}
-use Rattle.serde_json.specs.Events.{items_len}
 use Rattle.serde_json.specs.Read.{read}
-use Rattle.serde_json.specs.View.{items_view}
-use Rattle.serde_json.specs.declared.value.Value.{Value}
 use Rattle.ax_json.specs.declared.refusal.WalkErr.{WalkErr}
 use Rattle.ax_json.specs.declared.refusal.WalkErr.TheVariants.{Refused, NoMemory as OutOfMemory}
 use Rattle.ax_json.specs.Refused.{Refusal, refusal_of}
@@ -23,9 +19,6 @@ use Rattle.ax_script.specs.declared.script.FrameScript.{FrameScript}
 use Rattle.ax_script.specs.Drafts.{draft_of}
 use Rattle.ax_script.specs.Script.{json_of, script, told}
 use Rattle.ax_script.specs.Trees.{has_tree, knows, tree_or}
-
-pub items_len_view : (vs : List Value) → items_len (items_view vs) ≡ length vs
-items_len_view vs = items_len-items_view vs
 
 -- ---- trees
 

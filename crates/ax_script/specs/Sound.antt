@@ -29,7 +29,7 @@ HasItem s (Reader k) = (1 ≤ k) × (k ≤ length s.readers)
 
 -- There is a frame, the frames' trees differ, and nodes are put without children. The operations of the browser and the
 -- actions are at the frames' trees, and the order's items ask for what is there.
-pub record IsSound (s : Script) : Type 0 where
+pub record IsSoundScript (s : Script) : Type 0 where
   pub framed : 1 ≤ length s.frames
   pub apart : NoneTwice (trees_in s)
   pub leaves : All HasLeaves s.frames

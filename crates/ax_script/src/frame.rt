@@ -69,7 +69,7 @@ impl Form for FramesForm {
 
     ghost reads = { λ f. frames_of f.version };
 
-    #[tactic(auto, unfolding(crate::specs::Frames::frames_of), using(crate::proofs::Steps::items_len_view))]
+    #[tactic(auto, unfolding(crate::specs::Frames::frames_of), using(ax_forms::proofs::Under::items_len_view))]
     fn read(&self, alloc: Global, v: Value) -> Result<FrameScripts, WalkErr> {
         let items = array_of(alloc, v)?;
         if items.is_empty() || items.len() > 1000 {

@@ -3,7 +3,7 @@ ghost use Rattle.std.specs.Prelude.{◌≡◌, ◌⊎◌, ◌∷◌, ◌+◌, �
 ghost use Rattle.std.specs.Str.{chars};
 ghost use Rattle.serde_json.specs.View.{view};
 ghost use Rattle.ax_json.specs.Refused.{refusal_of};
-ghost use Rattle.ax_script.specs.Sound.{IsSound};
+ghost use Rattle.ax_script.specs.Sound.{IsSoundScript};
 ghost use Rattle.ax_script.specs.Script.{GivesScript, finished, json_of, ops_count, script, told, told_at, with_order};
 
 use crate::draft::{Draft, draft_of};
@@ -155,7 +155,7 @@ fn json_of(alloc: Global, bytes: &[u8]) -> Result<Option<Value>, NoMemory>
 #[tactic(auto, using(crate::proofs::Sound::given_is_sound))]
 pub fn read_script(alloc: Global, bytes: &[u8]) -> Result<Script, ScriptErr>
     ensures script { GivesScript result (script bytes.now) }
-    ensures sound { IfOk result IsSound }
+    ensures sound { IfOk result IsSoundScript }
 {
     script_of(alloc, bytes)
 }

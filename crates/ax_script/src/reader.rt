@@ -23,7 +23,7 @@ impl Form for ReadersForm {
 
     ghost reads = { λ f. readers_of f.version };
 
-    #[tactic(auto, unfolding(crate::specs::Readers::readers_of), using(crate::proofs::Steps::items_len_view))]
+    #[tactic(auto, unfolding(crate::specs::Readers::readers_of), using(ax_forms::proofs::Under::items_len_view))]
     fn read(&self, alloc: Global, v: Value) -> Result<ReaderScripts, WalkErr> {
         let items = array_of(alloc, v)?;
         if items.len() > 16 {

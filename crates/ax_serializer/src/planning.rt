@@ -1,3 +1,4 @@
+//! What an update clears, names and lists.
 ghost use Rattle.std.specs.Prelude.{◌≡◌, ℕ, Some, IfOk, IsTrue};
 ghost use Rattle.ax_trees.specs.Trees.{has, root_of};
 ghost use Rattle.ax_tree.specs.SerialRule.{last_held, partial_update, trees_update};

@@ -1,3 +1,4 @@
+//! The serializer and its calls.
 ghost use Rattle.std.specs.Prelude.{◌≡◌, ◌≤◌, ◌++◌, ◌∷◌, ◌||◌, [], false, length, map, IfErr, IfOk, IsTrue, OnErr, OnOk};
 ghost use Rattle.ax_trees.specs.Trees.{bare, has, height};
 ghost use Rattle.ax_tree.specs.Serialised.{client_after_update, marks_after_update, update_of, with_tree_data};

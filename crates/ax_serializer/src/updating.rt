@@ -1,3 +1,4 @@
+//! An update, made by its plan.
 ghost use Rattle.std.specs.Prelude.{◌≡◌, None, IfOk, IsTrue};
 ghost use Rattle.ax_trees.specs.Trees.{has};
 ghost use Rattle.ax_tree.specs.Serialised.{update_of};

@@ -27,7 +27,7 @@ use Rattle.ax_views.proofs.Climbing.{is_above}
 use Rattle.ax_views.proofs.Spotting.{spot_children, spot_known, spot_alone, tree_alone, spot_planted, tree_planted, roots-with_below, spot_pruned, tree_pruned, roots_pruned, spot_changed, tree_changed, spot_after_move, spot_moved, tree_moved, stays_there}
 use Rattle.ax_source.specs.declared.entries.Entry.{Entry}
 use Rattle.ax_source.specs.Changes.{child_added, child_dropped, relinked, Plants, Relinks}
-use Rattle.ax_source.specs.Kept.{Entries, IsSource, entry_of}
+use Rattle.ax_source.specs.Kept.{SourceEntries, IsSource, entry_of}
 use Rattle.ax_source.specs.Marking.{less}
 use Rattle.ax_source.proofs.Allowed.{MayInsert, MayMove}
 use Rattle.ax_source.proofs.Linked.{length-others}
@@ -78,10 +78,10 @@ filter-add p m y h =
 
 -- ---- marks alone
 
-pub mark_source : (e : Entries) (root : Option ℕ) (m l : List ℕ) (f : Trees Look) (id : ℕ) → IsSource e root m f → has f id ≡ true → l ≡ add_mark m id → IsSource e root l f
+pub mark_source : (e : SourceEntries) (root : Option ℕ) (m l : List ℕ) (f : Trees Look) (id : ℕ) → IsSource e root m f → has f id ≡ true → l ≡ add_mark m id → IsSource e root l f
 mark_source e root m l f id s t q = record { keeps = s.keeps; few = s.few; marked = λ z c. marked_add (has f) m id s.marked t z (ap (λ k. contains k z) (sym q) ∙ c) }
 
-pub mark_below_source : (e : Entries) (root : Option ℕ) (m l : List ℕ) (f : Trees Look) (id : ℕ) → IsSource e root m f → has f id ≡ true → l ≡ add_marks m (pre f id) → IsSource e root l f
+pub mark_below_source : (e : SourceEntries) (root : Option ℕ) (m l : List ℕ) (f : Trees Look) (id : ℕ) → IsSource e root m f → has f id ≡ true → l ≡ add_marks m (pre f id) → IsSource e root l f
 mark_below_source e root m l f id s t q = record {
   keeps = s.keeps;
   few = s.few;
@@ -93,14 +93,14 @@ mark_below_source e root m l f id s t q = record {
 
 -- ---- nothing, and the root
 
-pub empty_source : (n : Entries) (m : List ℕ) → n.entries ≡ [] → m ≡ [] → IsSource n None m bare
+pub empty_source : (n : SourceEntries) (m : List ℕ) → n.entries ≡ [] → m ≡ [] → IsSource n None m bare
 empty_source n m e q = record {
   keeps = record { at = λ z. ap (λ es. lookup (nat_eq z) es) e; is_tree = record { one_root = tt; distinct = tt }; tops = refl; low = omega arith };
   few = omega arith;
   marked = λ z c. absurd (false≢true (ap (λ k. contains k z) (sym q) ∙ c));
 }
 
-pub root_source : (n : Entries) (i : ℕ) (node : NodeData) (m : List ℕ) → node.children ≡ [] → node.id ≡ i
+pub root_source : (n : SourceEntries) (i : ℕ) (node : NodeData) (m : List ℕ) → node.children ≡ [] → node.id ≡ i
     → ((z : ℕ) → get nat_eq n z ≡ cond (eqb i z) (Some (record { node = node; above = None })) None) → m ≡ i ∷ []
     → IsSource n (Some i) m (tree i (look_of node) bare bare)
 root_source n i node m leaf is h e = record {
@@ -138,7 +138,7 @@ has_planted f p i c x z d h n g =
     same None h = absurd (false≢true h)
     same (Some s) h = refl
 
-pub insert_source : (e n : Entries) (root : Option ℕ) (m k : List ℕ) (f : Trees Look) (p i : ℕ) (node : NodeData) → IsSource e root m f → node.children ≡ []
+pub insert_source : (e n : SourceEntries) (root : Option ℕ) (m k : List ℕ) (f : Trees Look) (p i : ℕ) (node : NodeData) → IsSource e root m f → node.children ≡ []
     → MayInsert p i node.id (look_of node) f → Plants (get nat_eq e) (get nat_eq n) p i node.id (record { node = node; above = Some p }) → k ≡ add_marks m (p ∷ (node.id ∷ []))
     → IsSource n root k (with_below (planted i (tree node.id (look_of node) bare bare)) f p)
 insert_source e n root m k f p i node s leaf a h q =
@@ -177,7 +177,7 @@ insert_source e n root m k f p i node s leaf a h q =
     ends : (y : ℕ) → contains (p ∷ (node.id ∷ [])) y ≡ true → has f p ≡ true → (eqb node.id y || has f y) ≡ true
     ends y u there = by_go (eqb p y) (λ t. let at : has f y ≡ true = subst (λ v. has f v ≡ true) (eqb-true p y t) there in grind (arith, at)) (λ t. grind (arith, u, t))
 
-pub insert_marks : (e : Entries) (root : Option ℕ) (m : List ℕ) (f : Trees Look) (p i c : ℕ) (x : Look) → IsSource e root m f → MayInsert p i c x f
+pub insert_marks : (e : SourceEntries) (root : Option ℕ) (m : List ℕ) (f : Trees Look) (p i c : ℕ) (x : Look) → IsSource e root m f → MayInsert p i c x f
     → filter (has (with_below (planted i (tree c x bare bare)) f p)) m ≡ m
 insert_marks e root m f p i c x s a =
     filter_all (has (with_below (planted i (tree c x bare bare)) f p)) m (λ z g. has_planted f p i c x z s.keeps.is_tree.distinct a.there a.new (grind (arith, s.marked z g)))
@@ -227,7 +227,7 @@ parent_stays f n p d up =
         (λ q. false≢true (sym (not_below_self f n d) ∙ subst (λ v. has (below f v) n ≡ true) (sym (eqb-true n p q)) under))
         (λ q. false≢true (sym (not_below_self f n d) ∙ below_trans f n p n d (grind (arith, g, q)) under))
 
-pub remove_source : (e k n : Entries) (root : Option ℕ) (m l : List ℕ) (f : Trees Look) (p id : ℕ) (gone : List ℕ) → IsSource e root m f → has f id ≡ true → is_root f id ≡ false → parent f id ≡ Some p → gone ≡ pre f id
+pub remove_source : (e k n : SourceEntries) (root : Option ℕ) (m l : List ℕ) (f : Trees Look) (p id : ℕ) (gone : List ℕ) → IsSource e root m f → has f id ≡ true → is_root f id ≡ false → parent f id ≡ Some p → gone ≡ pre f id
     → ((z : ℕ) → get nat_eq k z ≡ cond (eqb p z) (option_map (child_dropped id) (get nat_eq e z)) (get nat_eq e z))
     → ((z : ℕ) → get nat_eq n z ≡ cond (contains gone z) None (get nat_eq k z)) → l ≡ less gone (add_mark m p)
     → IsSource n root l (pruned f id)
@@ -295,7 +295,7 @@ has_moved f n p i z d a =
     same None = refl
     same (Some s) = refl
 
-pub move_source : (e n : Entries) (root : Option ℕ) (m k : List ℕ) (f : Trees Look) (old p i id : ℕ) → IsSource e root m f → MayMove id p i f → parent f id ≡ Some old
+pub move_source : (e n : SourceEntries) (root : Option ℕ) (m k : List ℕ) (f : Trees Look) (old p i id : ℕ) → IsSource e root m f → MayMove id p i f → parent f id ≡ Some old
     → Relinks (get nat_eq e) (get nat_eq n) id old p i → k ≡ add_marks m (old ∷ (p ∷ []))
     → IsSource n root k (with_below (planted i (tree_at f id)) (pruned f id) p)
 move_source e n root m k f old p i id s a up h q =
@@ -314,7 +314,7 @@ move_source e n root m k f old p i id s a up h q =
     ends : (y : ℕ) → contains (old ∷ (p ∷ [])) y ≡ true → has f old ≡ true → has f y ≡ true
     ends y u there = by_go (eqb old y) (λ t. subst (λ v. has f v ≡ true) (eqb-true old y t) there) (λ t. subst (λ v. has f v ≡ true) (eqb-true p y (grind (arith, u, t))) a.place)
 
-pub move_marks : (e : Entries) (root : Option ℕ) (m : List ℕ) (f : Trees Look) (old p i id : ℕ) → IsSource e root m f → MayMove id p i f → parent f id ≡ Some old
+pub move_marks : (e : SourceEntries) (root : Option ℕ) (m : List ℕ) (f : Trees Look) (old p i id : ℕ) → IsSource e root m f → MayMove id p i f → parent f id ≡ Some old
     → add_marks m (old ∷ (p ∷ [])) ≡ add_marks (filter (has (with_below (planted i (tree_at f id)) (pruned f id) p)) m) (parent_or f id id ∷ (p ∷ []))
 move_marks e root m f old p i id s a up =
     let same : filter (has (with_below (planted i (tree_at f id)) (pruned f id) p)) m ≡ m = filter_all (has (with_below (planted i (tree_at f id)) (pruned f id) p)) m (λ z g. has_moved f id p i z s.keeps.is_tree.distinct a ∙ s.marked z g) in
@@ -323,7 +323,7 @@ move_marks e root m f old p i id s a up =
 
 -- ---- what the entries are asked for
 
-pub listed_there : (e : Entries) (root : Option ℕ) (f : Trees Look) (old id : ℕ) → Keeps entry_of (get nat_eq e) root f → parent f id ≡ Some old → IsDistinct f
+pub listed_there : (e : SourceEntries) (root : Option ℕ) (f : Trees Look) (old id : ℕ) → Keeps entry_of (get nat_eq e) root f → parent f id ≡ Some old → IsDistinct f
     → IfSome (get nat_eq e old) (λ x. IsTrue (contains x.node.children id))
 listed_there e root f old id k up d = subst (λ o. IfSome o (λ (x : Entry). IsTrue (contains x.node.children id))) (sym (k.at old)) (go (node_at f old) (sym (child_listed f old id) ∙ child_of_parent f old id d up))
   where
@@ -332,7 +332,7 @@ listed_there e root f old id k up d = subst (λ o. IfSome o (λ (x : Entry). IsT
     go None h = tt
     go (Some u) h = h
 
-pub within_there : (e : Entries) (root : Option ℕ) (f : Trees Look) (p i : ℕ) → Keeps entry_of (get nat_eq e) root f → i ≤ length (children f p) → IfSome (get nat_eq e p) (λ x. i ≤ length x.node.children)
+pub within_there : (e : SourceEntries) (root : Option ℕ) (f : Trees Look) (p i : ℕ) → Keeps entry_of (get nat_eq e) root f → i ≤ length (children f p) → IfSome (get nat_eq e p) (λ x. i ≤ length x.node.children)
 within_there e root f p i k h = subst (λ o. IfSome o (λ (x : Entry). i ≤ length x.node.children)) (sym (k.at p)) (go (node_at f p) (node_children f p))
   where
     go : (o : Option (Node Look)) → children f p ≡ listed_children o
@@ -340,7 +340,7 @@ within_there e root f p i k h = subst (λ o. IfSome o (λ (x : Entry). i ≤ len
     go None e = tt
     go (Some u) e = omega (arith, h, ap length e)
 
-pub place_there : (e : Entries) (root : Option ℕ) (f : Trees Look) (p i id : ℕ) → Keeps entry_of (get nat_eq e) root f → i ≤ length (filter (λ c. not (eqb c id)) (children f p))
+pub place_there : (e : SourceEntries) (root : Option ℕ) (f : Trees Look) (p i id : ℕ) → Keeps entry_of (get nat_eq e) root f → i ≤ length (filter (λ c. not (eqb c id)) (children f p))
     → IfSome (get nat_eq e p) (λ x. i ≤ length (removed id x.node.children))
 place_there e root f p i id k h = subst (λ o. IfSome o (λ (x : Entry). i ≤ length (removed id x.node.children))) (sym (k.at p)) (go (node_at f p) (node_children f p))
   where
@@ -355,7 +355,7 @@ count_known : (g : Look → Look) (f : Trees Look) (n : ℕ) → count (with_kno
 count_known g bare n = refl
 count_known g (tree i x k r) n = grind (arith, count_known g k n, count_known g r n)
 
-pub change_source : (e n : Entries) (root : Option ℕ) (m k : List ℕ) (f : Trees Look) (g : Look → Look) (h : Entry → Entry) (id : ℕ) → IsSource e root m f → has f id ≡ true
+pub change_source : (e n : SourceEntries) (root : Option ℕ) (m k : List ℕ) (f : Trees Look) (g : Look → Look) (h : Entry → Entry) (id : ℕ) → IsSource e root m f → has f id ≡ true
     → ((s : Spot Look) → spot f id ≡ Some s → h (entry_of id s) ≡ entry_of id (spot_known g s))
     → ((z : ℕ) → get nat_eq n z ≡ cond (eqb id z) (option_map h (get nat_eq e z)) (get nat_eq e z)) → k ≡ add_mark m id
     → IsSource n root k (with_known g f id)
@@ -385,5 +385,5 @@ change_source e n root m k f g h id s there ready puts q =
         subst (λ y. option_map h (option_map (entry_of y) (spot f y)) ≡ option_map (entry_of y) (option_map (spot_known g) (spot f y))) (eqb-true id z t) (at_id (spot f id) refl)
         ∙ ap (λ b. option_map (entry_of z) (cond b (option_map (spot_known g) (spot f z)) (spot f z))) (sym t)
 
-pub change_marks : (e : Entries) (root : Option ℕ) (m : List ℕ) (f : Trees Look) (g : Look → Look) (id : ℕ) → IsSource e root m f → filter (has (with_known g f id)) m ≡ m
+pub change_marks : (e : SourceEntries) (root : Option ℕ) (m : List ℕ) (f : Trees Look) (g : Look → Look) (id : ℕ) → IsSource e root m f → filter (has (with_known g f id)) m ≡ m
 change_marks e root m f g id s = filter_all (has (with_known g f id)) m (λ z c. has-with_known g f id z ∙ s.marked z c)

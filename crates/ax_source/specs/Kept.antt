@@ -10,8 +10,8 @@ use Rattle.ax_trees.specs.Lists.{contains}
 use Rattle.ax_views.specs.Kept.{Keeps, trees_in}
 use Rattle.ax_source.specs.declared.entries.Entry.{Entry}
 
-abbrev pub Entries : Type 0
-Entries = HashMap ℕ Entry (BuildHasherDefault FoldHasher)
+abbrev pub SourceEntries : Type 0
+SourceEntries = HashMap ℕ Entry (BuildHasherDefault FoldHasher)
 
 -- the spot that an entry tells, and the entry of a spot
 abbrev pub spot_of : Entry → Spot Look
@@ -21,11 +21,11 @@ abbrev pub entry_of : ℕ → Spot Look → Entry
 entry_of z s = record { node = node_of z s.known s.children; above = s.above }
 
 -- the trees that the entries show
-abbrev pub trees_kept : Entries → Option ℕ → Trees Look
+abbrev pub trees_kept : SourceEntries → Option ℕ → Trees Look
 trees_kept entries root = trees_in spot_of (get nat_eq entries) root
 
 -- the entries keep f, which isn't too large, and the marks are of its nodes
-pub record IsSource (entries : Entries) (root : Option ℕ) (marks : List ℕ) (f : Trees Look) : Type 0 where
+pub record IsSource (entries : SourceEntries) (root : Option ℕ) (marks : List ℕ) (f : Trees Look) : Type 0 where
   pub keeps : Keeps entry_of (get nat_eq entries) root f
   pub few : count f ≤ 100000
   pub marked : (z : ℕ) → contains marks z ≡ true → has f z ≡ true

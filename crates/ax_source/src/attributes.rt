@@ -1,3 +1,4 @@
+//! Attributes that an edit changes.
 ghost use Rattle.std.specs.Prelude.{◌≡◌, [], unwrap_or, IfOk, OnErr, OnOk};
 ghost use Rattle.ax_node.specs.Look.{look_of, node_of};
 ghost use Rattle.ax_tree.specs.Edits.{attrs_set, bad_change, bad_value, data_set, look_set};

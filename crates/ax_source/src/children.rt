@@ -1,3 +1,4 @@
+//! Child lists with an id more or less.
 ghost use Rattle.std.specs.Prelude.{◌≡◌, ◌<◌, ◌≤◌, ◌==◌, filter, length, not, remove, IsTrue, OnOk, OnErr};
 ghost use Rattle.ax_trees.specs.Lists.{contains};
 ghost use Rattle.ax_trees.specs.Spots.{inserted, removed};

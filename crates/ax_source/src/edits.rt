@@ -1,3 +1,4 @@
+//! The six edits.
 ghost use Rattle.std.specs.Prelude.{◌≡◌, [], IfErr, IfSome, IsTrue, None, OnErr, OnOk};
 ghost use Rattle.ax_node.specs.Look.{look_of};
 ghost use Rattle.ax_trees.specs.Trees.{has};

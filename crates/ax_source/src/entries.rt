@@ -1,3 +1,4 @@
+//! Nodes with the ids above them.
 ghost use Rattle.std.specs.Prelude.{◌≡◌, ◌≢◌, ◌≤◌, ℕ, length, nat_eq, option_map, IfSome, IsTrue, None, OnErr, OnOk, Some};
 ghost use Rattle.std.specs.HashMap.{get, spare};
 ghost use Rattle.ax_trees.specs.Lists.{contains};

@@ -1,3 +1,4 @@
+//! Marks that an edit sets, and how they are taken back.
 ghost use Rattle.std.specs.Prelude.{◌≡◌, [], ◌∷◌, IfOk, OnErr, OnOk};
 ghost use Rattle.ax_tree.specs.MarkRule.{add_mark, add_marks};
 ghost use Rattle.ax_source.specs.Marking.{less, taken_back};

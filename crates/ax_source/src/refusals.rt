@@ -1,3 +1,4 @@
+//! What stands against an edit.
 ghost use Rattle.std.specs.Prelude.{◌≡◌, ◌==◌, ◌||◌, filter, length, not};
 ghost use Rattle.ax_trees.specs.Trees.{has, is_bare, is_root};
 ghost use Rattle.ax_trees.specs.Nodes.{below, children};

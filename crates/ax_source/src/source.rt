@@ -1,3 +1,4 @@
+//! The source tree and its calls.
 ghost use Rattle.std.specs.Prelude.{ℕ, ◌≡◌, ◌≤◌, [], false, true, IfErr, IsTrue, OnOk, OnErr};
 ghost use Rattle.ax_marks.specs.MarkList.{without};
 ghost use Rattle.ax_trees.specs.Lists.{contains, NoneTwice};

@@ -31,7 +31,7 @@ use Rattle.ax_stitch.proofs.Climbs.{up, up_on, up_one, up_once, up_never_back}
 use Rattle.ax_stitch.proofs.Blocks.{stitched_places, block, blocks, shown_blocks, Reaches, reached}
 use Rattle.ax_stitch.proofs.Around.{ahead_of, behind_under, behind_of, formed_distinct, formed_next, around, Avoids, all_blocks, other_block, higher, ahead_avoids}
 use Rattle.ax_stitch.proofs.Places.{level_is, stands, formed_less}
-use Rattle.ax_stitch.proofs.Under.{AllFormed, all_formed, line_first, Known, Told, told, first_over}
+use Rattle.ax_stitch.proofs.Under.{AllFormed, all_formed, line_first, Known, FirstTold, told, first_over}
 
 -- ---- lists
 
@@ -218,7 +218,7 @@ known_first f first s n =
     ∙ (line_first q.tree over n.tree.trees q.node n.distinct (has-node n.tree.trees q.node ∙ ap is_some n.look)
     ∙ (ap (or_else (option_map (place_at q.tree) (parent n.tree.trees q.node))) (first_over n.steps f (host_of f q.tree)) ∙ ap (kin_in f q) (sym n.live)))
 
-kid_is : (f : Forest) (first : ℕ) (p : Place) (m : Tree) → live_tree f p.tree ≡ Some m → AllFormed f p.tree → HungFormed f p → (s : Placed) → Told f first s → is_child p s ≡ is_kid f p s.place
+kid_is : (f : Forest) (first : ℕ) (p : Place) (m : Tree) → live_tree f p.tree ≡ Some m → AllFormed f p.tree → HungFormed f p → (s : Placed) → FirstTold f first s → is_child p s ≡ is_kid f p s.place
 kid_is f first p m l w v s t =
     child_place p s.above ∙ by_go (s.place.tree == p.tree)
     (λ q. ap (is_place p) (known_first f first s (t.known (subst (AllFormed f) (sym (eqb-true s.place.tree p.tree q)) w))))
@@ -250,7 +250,7 @@ kids_filter : (f : Forest) (first : ℕ) (p : Place) (m : Tree) → first_tree f
     → children_of (stitched f) p ≡ filter (is_kid f p) (shown_from 8 f first)
 unfolding children_of
 kids_filter f first p m e l w v =
-    places_filter p (is_kid f p) (stitched f) (all_weaker (Told f first) (λ s. is_child p s ≡ is_kid f p s.place) (stitched f) (kid_is f first p m l w v) (told f first e))
+    places_filter p (is_kid f p) (stitched f) (all_weaker (FirstTold f first) (λ s. is_child p s ≡ is_kid f p s.place) (stitched f) (kid_is f first p m l w v) (told f first e))
     ∙ ap (filter (is_kid f p)) (stitched_places f ∙ ap (at_hung (shown_from 8 f)) e)
 
 -- ---- the filtered list

@@ -20,7 +20,7 @@ use Rattle.ax_stitch.specs.Levels.{AreFormed, line_in, line_of, line_over, line}
 use Rattle.ax_stitch.proofs.Hosts.{AllOf, all_append, found_holds, found_passes, hung_host, first_hangs_nowhere}
 use Rattle.ax_stitch.proofs.Climbs.{up, up_once}
 use Rattle.ax_stitch.proofs.Around.{formed_distinct, formed_next}
-use Rattle.ax_stitch.proofs.Places.{Stands, stands, same_is, formed_less}
+use Rattle.ax_stitch.proofs.Places.{PlaceStands, stands, same_is, formed_less}
 
 -- t and all trees above it are well formed
 abbrev pub AllFormed : Forest → ℕ → Type 0
@@ -149,7 +149,7 @@ pub record Known (f : Forest) (first : ℕ) (s : Placed) : Type 0 where
   pub children : List ℕ
   pub look : node_at tree.trees s.place.node ≡ Some (record { id = s.place.node; known = s.look; children = children })
 
-pub record Told (f : Forest) (first : ℕ) (s : Placed) : Type 0 where
+pub record FirstTold (f : Forest) (first : ℕ) (s : Placed) : Type 0 where
   pub edge : (first_of s.above ≡ host_of f s.place.tree) ⊎ ((y : ℕ) × (first_of s.above ≡ Some (place_at s.place.tree y)))
   pub known : AllFormed f s.place.tree → Known f first s
 
@@ -159,7 +159,7 @@ record Below (f : Forest) (first t k : ℕ) (over : List Place) : Type 0 where
   edge : first_of over ≡ host_of f t
   line : AllFormed f t → over ≡ line_over (line k f) (host_of f t)
 
-own_told : (f : Forest) (first t k : ℕ) (over : List Place) (m : Tree) → live_tree f t ≡ Some m → Below f first t k over → (s : Placed) → Own t over m.trees s → Told f first s
+own_told : (f : Forest) (first t k : ℕ) (over : List Place) (m : Tree) → live_tree f t ≡ Some m → Below f first t k over → (s : Placed) → Own t over m.trees s → FirstTold f first s
 own_told f first t k over m l b s o = record {
   edge = edged o.edge;
   known = λ w.
@@ -201,31 +201,31 @@ hung_below f first t k over m l b s o c h = record {
   line = λ w. ap (λ v. s.place ∷ v) (own_line f first t k over m l b s o (subst (AllFormed f) o.tree (formed_up f c s.place h w))) ∙ ap (line_over (line (suc k) f)) (sym h);
 }
 
-told_from : (n : ℕ) (f : Forest) (first t k : ℕ) (over : List Place) → Below f first t k over → AllOf (Told f first) (placed_from n f t over)
+told_from : (n : ℕ) (f : Forest) (first t k : ℕ) (over : List Place) → Below f first t k over → AllOf (FirstTold f first) (placed_from n f t over)
 told_from zero f first t k over b = tt
 told_from (suc n) f first t k over b = own (λ c j v g. told_from n f first c j v g) (live_tree f t) refl
   where
-    at : ((c j : ℕ) (v : List Place) → Below f first c j v → AllOf (Told f first) (placed_from n f c v)) → (m : Tree) → live_tree f t ≡ Some m → (s : Placed) → Own t over m.trees s
-        → (o : Option ℕ) → hosted_by f s.place ≡ o → AllOf (Told f first) (flat_map (λ c. placed_from n f c (s.place ∷ s.above)) (option_to_list o))
+    at : ((c j : ℕ) (v : List Place) → Below f first c j v → AllOf (FirstTold f first) (placed_from n f c v)) → (m : Tree) → live_tree f t ≡ Some m → (s : Placed) → Own t over m.trees s
+        → (o : Option ℕ) → hosted_by f s.place ≡ o → AllOf (FirstTold f first) (flat_map (λ c. placed_from n f c (s.place ∷ s.above)) (option_to_list o))
     at ih m l s o None e = tt
     at ih m l s o (Some c) e =
-        subst (AllOf (Told f first)) (sym (append-nil (placed_from n f c (s.place ∷ s.above)))) (ih c (suc k) (s.place ∷ s.above) (hung_below f first t k over m l b s o c (hung_host f s.place c e)))
+        subst (AllOf (FirstTold f first)) (sym (append-nil (placed_from n f c (s.place ∷ s.above)))) (ih c (suc k) (s.place ∷ s.above) (hung_below f first t k over m l b s o c (hung_host f s.place c e)))
 
-    own : ((c j : ℕ) (v : List Place) → Below f first c j v → AllOf (Told f first) (placed_from n f c v)) → (o : Option Tree) → live_tree f t ≡ o
-        → AllOf (Told f first) (placed_of (λ p q. flat_map (λ c. placed_from n f c q) (option_to_list (hosted_by f p))) t over o)
+    own : ((c j : ℕ) (v : List Place) → Below f first c j v → AllOf (FirstTold f first) (placed_from n f c v)) → (o : Option Tree) → live_tree f t ≡ o
+        → AllOf (FirstTold f first) (placed_of (λ p q. flat_map (λ c. placed_from n f c q) (option_to_list (hosted_by f p))) t over o)
     own ih None e = tt
     own ih (Some m) e =
-        own_all (Told f first) (λ p q. flat_map (λ c. placed_from n f c q) (option_to_list (hosted_by f p))) t over m.trees (own_told f first t k over m e b)
+        own_all (FirstTold f first) (λ p q. flat_map (λ c. placed_from n f c q) (option_to_list (hosted_by f p))) t over m.trees (own_told f first t k over m e b)
         (λ s o. at ih m e s o (hosted_by f s.place) refl)
 
-told_first : (f : Forest) (first : ℕ) (o : Option ℕ) → first_tree f ≡ o → o ≡ Some first → AllOf (Told f first) (placed_from_first f o)
+told_first : (f : Forest) (first : ℕ) (o : Option ℕ) → first_tree f ≡ o → o ≡ Some first → AllOf (FirstTold f first) (placed_from_first f o)
 told_first f first None e h = absurd (cc)
 told_first f first (Some t) e h =
     let same : t ≡ first = cc in
     let none : host_of f t ≡ None = first_hangs_nowhere f t e in
     told_from 8 f first t 0 [] (record { climbs = ap Some same; edge = sym none; line = λ w. ap (line_over (line 0 f)) (sym none) })
 
-pub told : (f : Forest) (first : ℕ) → first_tree f ≡ Some first → AllOf (Told f first) (stitched f)
+pub told : (f : Forest) (first : ℕ) → first_tree f ≡ Some first → AllOf (FirstTold f first) (stitched f)
 unfolding stitched
 told f first e = told_first f first (first_tree f) refl e
 
@@ -273,7 +273,7 @@ placed f p h w =
     let stop : host_of f l.first ≡ None = first_hangs_nowhere f l.first l.is_first in
     let e = found_placed f p h in
     let at : e.0.place ≡ p = same_is e.0.place p (found_passes (stands_at p) (stitched f) e.0 e.1) in
-    let t : Told f l.first e.0 = found_holds (Told f l.first) (stands_at p) (stitched f) e.0 (told f l.first l.is_first) e.1 in
+    let t : FirstTold f l.first e.0 = found_holds (FirstTold f l.first) (stands_at p) (stitched f) e.0 (told f l.first l.is_first) e.1 in
     let n = t.known (subst (λ (q : Place). AllFormed f q.tree) (sym at) (formed f p w there)) in (
       e.0,
       record {
@@ -292,11 +292,11 @@ placed f p h w =
       },
     )
   where
-    formed : (f : Forest) (p : Place) → AreFormed 8 f p.tree → (s : Stands f p) → AllFormed f p.tree
+    formed : (f : Forest) (p : Place) → AreFormed 8 f p.tree → (s : PlaceStands f p) → AllFormed f p.tree
     formed f p w s =
         all_formed s.level.steps f p.tree s.level.first (first_hangs_nowhere f s.level.first s.level.is_first) s.level.climbs (formed_less (suc s.level.steps) 8 f p.tree (let a = s.level.sum in omega arith) w)
 
-    few : (f : Forest) (s : Placed) (there : Stands f p) (n : Known f there.level.first s) → s.place ≡ p → n.steps < 8
+    few : (f : Forest) (s : Placed) (there : PlaceStands f p) (n : Known f there.level.first s) → s.place ≡ p → n.steps < 8
     few f s there n at =
         let a = up_once f n.steps there.level.steps s.place.tree there.level.first (first_hangs_nowhere f there.level.first there.level.is_first) n.climbs (ap (λ (q : Place). up there.level.steps f q.tree) at ∙ there.level.climbs) in
         let b = there.level.sum in

@@ -1,5 +1,5 @@
 -- A script is the same of all bytes and of as many as are read, and what a run says of one it says of the other.
-use Rattle.std.proofs.Common.{◌≡◌, ℕ, ◌≤◌, ◌<◌, List, [], length, take, drop, refl, ap, ◌∙◌, arith, Option, Some, None, Result, Ok, Err, Bool, true, false, nat_lt, IfSome, is_ok}
+use Rattle.std.proofs.Common.{◌≡◌, ℕ, ◌≤◌, ◌<◌, List, length, take, drop, refl, sym, ap, ◌∙◌, arith, Option, Some, None, Result, Ok, Err, Bool, true, false, nat_lt, IfSome, is_ok}
 use Rattle.std.proofs.lemmas.List.{length-take, take_all, drop_all}
 use Rattle.std.proofs.lemmas.Bool.{ltb-true, lt-ltb}
 use Rattle.std.proofs.lemmas.Bool.Decides.{nat_tests}
@@ -9,10 +9,9 @@ use Rattle.ax_script.specs.declared.error.ScriptErr.{ScriptErr}
 use Rattle.ax_script.specs.declared.script.Script.{Script}
 use Rattle.ax_script.specs.Script.{script}
 use Rattle.ax_script.specs.ErrorText.{script_error_text}
-use Rattle.ax_top.specs.Built.{if_built, script_of}
-use Rattle.ax_top.specs.Text.{script_text}
+use Rattle.ax_top.specs.Runs.{if_in_turn, script_of}
 use Rattle.ax_top.specs.Answer.{text_of}
-use Rattle.ax_top.specs.Ends.{Replayed, Refuses, WritesFront}
+use Rattle.ax_top.specs.Ends.{IsReplayed, IsRefused, Replayed, TellsRefusal, WritesFront}
 
 not_below : (a b : ℕ) → nat_lt a b ≡ false → b ≤ a
 not_below a b e = grind (arith, nat_tests)
@@ -27,7 +26,7 @@ front_at bs false e = ap script (take_all 67108865 bs (let h : length bs ≤ 671
 
 pub same_of_front : (bs : List ℕ) → script_of (take 67108865 bs) ≡ script_of bs
 unfolding script_of
-same_of_front bs = ap if_built (front_at bs (nat_lt 67108864 (length bs)) refl)
+same_of_front bs = ap if_in_turn (front_at bs (nat_lt 67108864 (length bs)) refl)
 
 short_at : (bs : List ℕ) (s : Script) (b : Bool) → nat_lt 67108864 (length bs) ≡ b → script_of bs ≡ Ok s → length bs ≤ 67108864
 unfolding script_of script
@@ -37,31 +36,43 @@ short_at bs s false e is = not_below _ _ e
 pub script_is_short : (bs : List ℕ) (s : Script) → script_of bs ≡ Ok s → length bs ≤ 67108864
 script_is_short bs s is = short_at bs s (nat_lt 67108864 (length bs)) refl is
 
-replayed_at : (b text : List ℕ) (rest held now : Option (List ℕ)) (r : Result Script ScriptErr) → script_of b ≡ r → rest ≡ Some (drop 67108865 b) → true ≡ is_ok r → text ≡ text_of r → Appends held now text
-    → (s : Script) × (script_of b ≡ Ok s) × (rest ≡ Some []) × Appends held now (script_text s)
-replayed_at b text rest held now (Ok s) is end ok t h = (s, is, end ∙ ap Some (drop_all 67108865 b (let short : length b ≤ 67108864 = script_is_short b s is in omega arith)), rw (← t) h)
+replayed_at : (b text : List ℕ) (rest held now : Option (List ℕ)) (r : Result Script ScriptErr) → script_of b ≡ r → rest ≡ Some (drop 67108865 b) → true ≡ is_ok r → text_of r ≡ Some text → Appends held now text
+    → IsReplayed b rest held now
+replayed_at b text rest held now (Ok s) is end ok t h = record {
+  script = s;
+  read = is;
+  end = end ∙ ap Some (drop_all 67108865 b (let short : length b ≤ 67108864 = script_is_short b s is in omega arith));
+  text = text;
+  ran = t;
+  written = h;
+}
 replayed_at b text rest held now (Err r) is end ok t h = cc
 
 pub replayed : (left rest held now : Option (List ℕ)) (bytes text : List ℕ) → IfSome left (λ l. bytes ≡ take 67108865 l) → IfSome left (λ l. rest ≡ Some (drop 67108865 l))
-    → text ≡ text_of (script_of bytes) → true ≡ is_ok (script_of bytes) → Appends held now text → Replayed left rest held now
+    → text_of (script_of bytes) ≡ Some text → true ≡ is_ok (script_of bytes) → Appends held now text → Replayed left rest held now
 replayed None rest held now bytes text whole end t ok h = tt
 replayed (Some b) rest held now bytes text whole end t ok h =
     let same : script_of bytes ≡ script_of b = ap script_of whole ∙ same_of_front b in
-    replayed_at b text rest held now (script_of b) refl end (ok ∙ ap is_ok same) (t ∙ ap text_of same) h
+    replayed_at b text rest held now (script_of b) refl end (ok ∙ ap is_ok same) (ap text_of (sym same) ∙ t) h
 
-refuses_at : (b text : List ℕ) (held now : Option (List ℕ)) (r : Result Script ScriptErr) → script_of b ≡ r → false ≡ is_ok r → text ≡ text_of r → Appends held now text
-    → (e : ScriptErr) × (script_of b ≡ Err e) × Appends held now (script_error_text e)
-refuses_at b text held now (Ok s) is ok t h = cc
-refuses_at b text held now (Err e) is ok t h = (e, is, rw (← t) h)
+refused_at : (b text : List ℕ) (held now : Option (List ℕ)) (r : Result Script ScriptErr) → script_of b ≡ r → false ≡ is_ok r → text_of r ≡ Some text → Appends held now text
+    → IsRefused b held now
+refused_at b text held now (Ok s) is ok t h = cc
+refused_at b text held now (Err e) is ok t h = record { error = e; read = is; written = rw (the_same (script_error_text e) text t) h }
+  where
+    the_same : (xs ys : List ℕ) → Some xs ≡ Some ys → xs ≡ ys
+    the_same xs ys is = cc
 
 pub refuses : (left held now : Option (List ℕ)) (bytes text : List ℕ) → IfSome left (λ l. bytes ≡ take 67108865 l)
-    → text ≡ text_of (script_of bytes) → false ≡ is_ok (script_of bytes) → Appends held now text → Refuses left held now
+    → text_of (script_of bytes) ≡ Some text → false ≡ is_ok (script_of bytes) → Appends held now text → TellsRefusal left held now
 refuses None held now bytes text whole t ok h = tt
 refuses (Some b) held now bytes text whole t ok h =
     let same : script_of bytes ≡ script_of b = ap script_of whole ∙ same_of_front b in
-    refuses_at b text held now (script_of b) refl (ok ∙ ap is_ok same) (t ∙ ap text_of same) h
+    refused_at b text held now (script_of b) refl (ok ∙ ap is_ok same) (ap text_of (sym same) ∙ t) h
 
 pub writes_front : (left held now : Option (List ℕ)) (bytes text : List ℕ) → IfSome left (λ l. bytes ≡ take 67108865 l)
-    → text ≡ text_of (script_of bytes) → AppendsFront held now text → WritesFront left held now
+    → text_of (script_of bytes) ≡ Some text → AppendsFront held now text → IfSome left (λ b. WritesFront (text_of (script_of b)) held now)
 writes_front None held now bytes text whole t h = tt
-writes_front (Some b) held now bytes text whole t h = rw (← same_of_front b, ← whole, ← t) h
+writes_front (Some b) held now bytes text whole t h =
+    let same : script_of bytes ≡ script_of b = ap script_of whole ∙ same_of_front b in
+    record { text = text; is = ap text_of (sym same) ∙ t; front = h }

@@ -1,2 +1,9 @@
+pub mod Answers
+pub mod Behind
+pub mod Commands
+pub mod Counting
+pub mod Ending
 pub mod Fronts
-pub mod Unbuilt
+pub mod Made
+pub mod Runs
+pub mod Words

@@ -5,7 +5,7 @@ use Rattle.ax_words.specs.declared.Command.TheVariants.{Replay, Race, Combine, A
 use Rattle.ax_script.specs.declared.error.ScriptErr.{ScriptErr}
 use Rattle.ax_script.specs.declared.script.Script.{Script}
 use Rattle.ax_script.specs.ErrorText.{script_error_text}
-use Rattle.ax_top.specs.Text.{script_text}
+use Rattle.ax_top.specs.Runs.{replay_of}
 
 -- the command is built, so that words which are it aren't answered by the usage line
 abbrev pub is_built : Option Command → Bool
@@ -14,12 +14,30 @@ is_built (Some Replay) = true
 is_built (Some Race) = false
 is_built (Some Combine) = false
 is_built (Some Act) = false
-is_built (Some (Gen seed frames ops)) = false
+is_built (Some (Gen seed frames ops)) = true
+
+-- the command reads the source
+abbrev pub is_reading : Option Command → Bool
+is_reading None = false
+is_reading (Some Replay) = true
+is_reading (Some Race) = false
+is_reading (Some Combine) = false
+is_reading (Some Act) = false
+is_reading (Some (Gen seed frames ops)) = false
+
+-- the command makes a script
+abbrev pub is_making : Option Command → Bool
+is_making None = false
+is_making (Some Replay) = false
+is_making (Some Race) = false
+is_making (Some Combine) = false
+is_making (Some Act) = false
+is_making (Some (Gen seed frames ops)) = true
 
 abbrev pub usage_text : List ℕ
 usage_text = codes "usage: ax_tool replay | race | combine | act | gen SEED FRAMES OPS\n"
 
--- the text of what the bytes are
-abbrev pub text_of : Result Script ScriptErr → List ℕ
-text_of (Ok s) = script_text s
-text_of (Err e) = script_error_text e
+-- the text of what the bytes are: that of a script's run, or the line of the refusal
+abbrev pub text_of : Result Script ScriptErr → Option (List ℕ)
+text_of (Ok s) = replay_of s
+text_of (Err e) = Some (script_error_text e)

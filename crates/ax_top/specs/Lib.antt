@@ -1,5 +1,7 @@
 pub mod Answer
-pub mod Built
+pub mod Counting
 pub mod Ends
+pub mod Gen
+pub mod Running
+pub mod Runs
 pub mod Status
-pub mod Text

@@ -1,47 +1,16 @@
-//! The text of an answer.
-ghost use Rattle.std.specs.Prelude.{◌≡◌, ◌≢◌, All, IfOk, is_ok};
+//! The answer to the bytes of a script.
+ghost use Rattle.std.specs.Prelude.{◌≡◌, ◌≢◌, IfOk, Some, false, is_ok};
 ghost use Rattle.ax_script.specs.ErrorText.{script_error_text};
-ghost use Rattle.ax_top.specs.Built.{script_of};
-ghost use Rattle.ax_script.specs.Sound.{HasLeaves};
-ghost use Rattle.ax_top.specs.Text.{script_text};
+ghost use Rattle.ax_script.specs.Script.{script, GivesScript};
+ghost use Rattle.ax_script.specs.Sound.{IsSoundScript};
 ghost use Rattle.ax_top.specs.Answer.{text_of};
+ghost use Rattle.ax_top.specs.Runs.{in_turn, missing_item, script_of};
 
-use crate::built::read_built;
+use crate::running::{Ran, run_script};
 use ax_base::NoMemory;
-use ax_replay::replay_text;
 use ax_report::Bytes;
-use ax_script::{Script, ScriptErr, script_error_text};
+use ax_script::{Script, ScriptErr, read_script, script_error_text};
 use std::alloc::Global;
-
-/// The line of a refusal. Want of memory has none.
-fn refusal_line(alloc: Global, error: &ScriptErr) -> Result<Bytes, NoMemory>
-    ensures text { IfOk result (λ line. line.items ≡ script_error_text error.now) }
-    ensures told { IfOk result (λ _. error.now ≢ ScriptErr.NoMemory) }
-{
-    match error {
-        ScriptErr::NoMemory => Err(NoMemory),
-        _ => {
-            let mut line = Bytes::new(alloc);
-            script_error_text(error, &mut line)?;
-            Ok(line)
-        }
-    }
-}
-
-/// The text of a script's one frame.
-#[tactic(auto, unfolding(crate::specs::Text::script_text))]
-fn script_text(alloc: Global, script: &Script) -> Result<Bytes, NoMemory>
-    requires { All HasLeaves script.now.frames }
-    ensures { IfOk result (λ text. text.items ≡ script_text script.now) }
-{
-    match script.frames.as_slice().first() {
-        Some(frame) => {
-            let browser = script.browser.as_slice();
-            replay_text(alloc, frame.tree, frame.ops.as_slice(), browser)
-        }
-        None => Ok(Bytes::new(alloc)),
-    }
-}
 
 /// What bytes are answered, where memory lasts.
 #[derive(Drop)]
@@ -50,20 +19,56 @@ pub(crate) struct Told {
     pub text: Bytes,
 }
 
-/// The answer to these bytes.
-#[tactic(auto, using(crate::proofs::Unbuilt::refusal_is))]
-pub(crate) fn answer(alloc: Global, bytes: &[u8]) -> Result<Told, NoMemory>
-    ensures text { IfOk result (λ told. told.text.items ≡ text_of (script_of bytes.now)) }
-    ensures kind { IfOk result (λ told. told.is_script ≡ is_ok (script_of bytes.now)) }
+/// Tells a refusal by its line. Want of memory has none.
+fn refused(alloc: Global, error: &ScriptErr) -> Result<Told, NoMemory>
+    ensures text { IfOk result (λ told. told.text.items ≡ script_error_text error.now) }
+    ensures kind { IfOk result (λ told. told.is_script ≡ false) }
+    ensures why { IfOk result (λ _. error.now ≢ ScriptErr.NoMemory) }
 {
-    match read_built(alloc, bytes) {
-        Ok(script) => Ok(Told {
+    match error {
+        ScriptErr::NoMemory => Err(NoMemory),
+        _ => {
+            let mut text = Bytes::new(alloc);
+            script_error_text(error, &mut text)?;
+            Ok(Told {
+                is_script: false,
+                text,
+            })
+        }
+    }
+}
+
+/// Runs a script, and tells its text, or the first item of its order that isn't there in its turn.
+fn told_run(alloc: Global, script: Script) -> Result<Told, NoMemory>
+    requires { IsSoundScript script }
+    ensures text { IfOk result (λ told. text_of (in_turn script (missing_item script)) ≡ Some told.text.items) }
+    ensures kind { IfOk result (λ told. told.is_script ≡ is_ok (in_turn script (missing_item script))) }
+{
+    match run_script(alloc, script)? {
+        Ran::Whole(text) => Ok(Told {
             is_script: true,
-            text: script_text(alloc, &script)?,
+            text,
         }),
-        Err(error) => Ok(Told {
-            is_script: false,
-            text: refusal_line(alloc, &error)?,
-        }),
+        Ran::Missing(number) => refused(alloc, &ScriptErr::BadOrder(number)),
+    }
+}
+
+/// Reads a script, and lets its bytes go.
+fn read(alloc: Global, bytes: Vec<u8>) -> Result<Script, ScriptErr>
+    ensures script { GivesScript result (script bytes.items) }
+    ensures sound { IfOk result IsSoundScript }
+{
+    read_script(alloc, &bytes)
+}
+
+/// The answer to these bytes.
+#[tactic(auto, unfolding(crate::specs::Runs::script_of), using(crate::proofs::Answers::refusal_is))]
+pub(crate) fn answer(alloc: Global, bytes: Vec<u8>) -> Result<Told, NoMemory>
+    ensures text { IfOk result (λ told. text_of (script_of bytes.items) ≡ Some told.text.items) }
+    ensures kind { IfOk result (λ told. told.is_script ≡ is_ok (script_of bytes.items)) }
+{
+    match read(alloc, bytes) {
+        Ok(script) => told_run(alloc, script),
+        Err(error) => refused(alloc, &error),
     }
 }

@@ -1,15 +1,18 @@
 //! The top call.
-ghost use Rattle.std.specs.Prelude.{◌≡◌, ◌≢◌, ◌≤◌, ◌⊎◌, IsTrue, IsOk, IsErr, IfSome, IfOk, None, Ok, false};
+ghost use Rattle.std.specs.Prelude.{◌≡◌, ◌≢◌, ◌≤◌, ◌<◌, ◌⊎◌, IsTrue, IsOk, IsErr, IfSome, None, Some, false};
 ghost use Rattle.std.specs.Io.KnownBytes.{Appends, Keeps};
 ghost use Rattle.ax_io.specs.Causes.{Rose};
 ghost use Rattle.ax_io.specs.Parts.{AppendsFront};
+ghost use Rattle.ax_words.specs.declared.Command.TheVariants.{Replay};
 ghost use Rattle.ax_words.specs.Words.{command_of};
-ghost use Rattle.ax_top.specs.Built.{script_of};
-ghost use Rattle.ax_top.specs.Answer.{is_built, usage_text};
-ghost use Rattle.ax_top.specs.Ends.{Replayed, Refuses, WritesFront, WritesPart};
+ghost use Rattle.ax_top.specs.Runs.{script_of};
+ghost use Rattle.ax_top.specs.Gen.{gen_text};
+ghost use Rattle.ax_top.specs.Answer.{is_built, is_reading, is_making, text_of, usage_text};
+ghost use Rattle.ax_top.specs.Ends.{Done, IsMade, Replayed, TellsRefusal, WritesFront, WritesPart};
 
 use crate::answer::answer;
-use ax_base::{NoMemory, Text};
+use crate::making::gen_text;
+use ax_base::Text;
 use ax_io::{ReadErr, Sink, Source, read_up_to, write_whole};
 use ax_words::{Command, read_words};
 use std::alloc::Global;
@@ -22,7 +25,7 @@ const LIMIT: usize = 67_108_864;
 /// How a run ended.
 #[derive(Clone, Copy, Debug, PartialEq, Eq)]
 pub enum Status {
-    /// The script was read to its end, and the whole text was written.
+    /// The whole text was written, of a script that was read to its end or was made.
     Ok,
     /// The words are no command, as the line says that was written.
     Usage,
@@ -69,13 +72,14 @@ fn finish<K: Sink>(out: &mut K, text: &[u8], status: Status) -> Status
     }
 }
 
-/// Reads a script, runs it and writes the text.
+/// Reads a script, runs it over its own order and writes the text.
 fn replay<S: Source, K: Sink>(alloc: Global, src: &mut S, out: &mut K) -> Status
     ensures done { result ≡ Status.Ok → Replayed (S.left src.old) (S.left src.new) (K.held out.old) (K.held out.new) }
-    ensures refused { result ≡ Status.Script → Refuses (S.left src.old) (K.held out.old) (K.held out.new) }
+    ensures refused { result ≡ Status.Script → TellsRefusal (S.left src.old) (K.held out.old) (K.held out.new) }
     ensures usage { result ≢ Status.Usage }
     ensures read { result ≡ Status.ReadFault → Rose (S.fault_count src.old) (S.fault_count src.new) × Keeps (K.held out.old) (K.held out.new) }
-    ensures write { result ≡ Status.WriteFault → Rose (K.fault_count out.old) (K.fault_count out.new) × WritesFront (S.left src.old) (K.held out.old) (K.held out.new) }
+    ensures write { result ≡ Status.WriteFault → Rose (K.fault_count out.old) (K.fault_count out.new)
+        × IfSome (S.left src.old) (λ b. WritesFront (text_of (script_of b)) (K.held out.old) (K.held out.new)) }
     ensures memory { result ≡ Status.NoMemory → Keeps (K.held out.old) (K.held out.new) }
     ensures source_later { S.fault_count src.old ≤ S.fault_count src.new }
     ensures sink_later { K.fault_count out.old ≤ K.fault_count out.new }
@@ -85,7 +89,7 @@ fn replay<S: Source, K: Sink>(alloc: Global, src: &mut S, out: &mut K) -> Status
         Err(ReadErr::Fault) => return Status::ReadFault,
         Err(ReadErr::NoMemory) => return Status::NoMemory,
     };
-    match answer(alloc, &bytes) {
+    match answer(alloc, bytes) {
         Ok(told) => {
             if told.is_script {
                 finish(out, &told.text, Status::Ok)
@@ -97,55 +101,66 @@ fn replay<S: Source, K: Sink>(alloc: Global, src: &mut S, out: &mut K) -> Status
     }
 }
 
-/// Whether the words are a command that is built.
-fn leads_on(alloc: Global, words: &[Text]) -> Result<bool, NoMemory>
-    ensures built { IfOk result (λ built. built ≡ is_built (command_of words.now)) }
-    ensures none { command_of words.now ≡ None → result ≡ Ok false }
+/// Makes a script, runs it and writes its line.
+fn make_and_run<K: Sink>(alloc: Global, seed: u32, frames: u32, ops: u32, out: &mut K) -> Status
+    requires some { 0 < frames }
+    requires frames { frames ≤ 1000 }
+    requires ops { ops ≤ 900000 }
+    ensures done { result ≡ Status.Ok → IsMade seed frames ops (K.held out.old) (K.held out.new) }
+    ensures kind { (result ≡ Status.Ok) ⊎ ((result ≡ Status.WriteFault) ⊎ (result ≡ Status.NoMemory)) }
+    ensures write { result ≡ Status.WriteFault → Rose (K.fault_count out.old) (K.fault_count out.new)
+        × WritesFront (gen_text seed frames ops) (K.held out.old) (K.held out.new) }
+    ensures memory { result ≡ Status.NoMemory → Keeps (K.held out.old) (K.held out.new) }
+    ensures sink_later { K.fault_count out.old ≤ K.fault_count out.new }
 {
-    match read_words(alloc, words)? {
-        Some(Command::Replay) => Ok(true),
-        _ => Ok(false),
+    match gen_text(alloc, seed, frames, ops) {
+        Ok(text) => finish(out, &text, Status::Ok),
+        Err(_) => Status::NoMemory,
     }
 }
 
 /// Does what the words say.
 ///
-/// So far `replay` is built; the other commands are answered like words that are none. Each status comes only as its clause
-/// says, and names the bytes that the source had left and those that the sink gained.
+/// `replay` runs the script that it reads, over the script's own order; `gen` runs one that it makes. The other commands are
+/// answered like words that are none. Each status comes only as its clause says, and names the bytes that the source had left
+/// and those that the sink gained. No text is written before it stands whole.
 pub fn calm_main<S: Source, K: Sink>(
     alloc: Global,
     words: &[Text],
     src: &mut S,
     out: &mut K,
 ) -> Status
-    // The script was read to its end, and the whole text was written.
-    ensures done { result ≡ Status.Ok → IsTrue (is_built (command_of words.now))
-        × Replayed (S.left src.old) (S.left src.new) (K.held out.old) (K.held out.new) }
-    // The words are no command; the source isn't read.
+    // The whole text was written: of `replay` that of the script that was read to its end, of `gen` its line.
+    ensures done { result ≡ Status.Ok → Done (command_of words.now) (S.left src.old) (S.left src.new) (K.held out.old) (K.held out.new) }
+    // The words are no command.
     ensures usage { result ≡ Status.Usage → (is_built (command_of words.now) ≡ false)
         × Appends (K.held out.old) (K.held out.new) usage_text }
-    // Where the words are no command the source isn't read, however the call ends.
-    ensures unread { is_built (command_of words.now) ≡ false → src.new ≡ src.old }
-    ensures refused { result ≡ Status.Script → IsTrue (is_built (command_of words.now))
-        × Refuses (S.left src.old) (K.held out.old) (K.held out.new) }
+    // Where the words don't ask for it the source isn't read, however the call ends.
+    ensures unread { is_reading (command_of words.now) ≡ false → src.new ≡ src.old }
+    ensures refused { result ≡ Status.Script → (command_of words.now ≡ Some Replay)
+        × TellsRefusal (S.left src.old) (K.held out.old) (K.held out.new) }
     ensures read { result ≡ Status.ReadFault → Rose (S.fault_count src.old) (S.fault_count src.new)
         × Keeps (K.held out.old) (K.held out.new) }
     ensures write { result ≡ Status.WriteFault → Rose (K.fault_count out.old) (K.fault_count out.new)
-        × WritesPart (is_built (command_of words.now)) (S.left src.old) (K.held out.old) (K.held out.new) }
+        × WritesPart (command_of words.now) (S.left src.old) (K.held out.old) (K.held out.new) }
     ensures memory { result ≡ Status.NoMemory → Keeps (K.held out.old) (K.held out.new) }
     ensures source_later { S.fault_count src.old ≤ S.fault_count src.new }
     ensures sink_later { K.fault_count out.old ≤ K.fault_count out.new }
 
-    // Where no count rose, a script is replayed, or there was no memory.
-    ensures complete { IsTrue (is_built (command_of words.now))
+    // Where no count rose, a script whose items are there in their turn is replayed, or there was no memory.
+    ensures complete { command_of words.now ≡ Some Replay
         → ¬ Rose (S.fault_count src.old) (S.fault_count src.new)
         → ¬ Rose (K.fault_count out.old) (K.fault_count out.new)
         → IfSome (S.left src.old) (λ b. IsOk (script_of b) → (result ≡ Status.Ok) ⊎ (result ≡ Status.NoMemory)) }
-    // Where no count rose, bytes that are no script are refused, or there was no memory.
-    ensures complete_refusal { IsTrue (is_built (command_of words.now))
+    // Where no count rose, other bytes are refused, or there was no memory.
+    ensures complete_refusal { command_of words.now ≡ Some Replay
         → ¬ Rose (S.fault_count src.old) (S.fault_count src.new)
         → ¬ Rose (K.fault_count out.old) (K.fault_count out.new)
         → IfSome (S.left src.old) (λ b. IsErr (script_of b) → (result ≡ Status.Script) ⊎ (result ≡ Status.NoMemory)) }
+    // Where the sink's count didn't rise, a made script is run, or there was no memory.
+    ensures complete_gen { IsTrue (is_making (command_of words.now))
+        → ¬ Rose (K.fault_count out.old) (K.fault_count out.new)
+        → (result ≡ Status.Ok) ⊎ (result ≡ Status.NoMemory) }
     // Words that are no command are told so, unless the write fails.
     ensures complete_usage { command_of words.now ≡ None
         → ¬ Rose (K.fault_count out.old) (K.fault_count out.new)
@@ -155,9 +170,10 @@ pub fn calm_main<S: Source, K: Sink>(
         → ¬ Rose (K.fault_count out.old) (K.fault_count out.new)
         → (result ≡ Status.Usage) ⊎ (result ≡ Status.NoMemory) }
 {
-    match leads_on(alloc, words) {
-        Ok(true) => replay(alloc, src, out),
-        Ok(false) => finish(out, USAGE.as_bytes(), Status::Usage),
+    match read_words(alloc, words) {
+        Ok(Some(Command::Replay)) => replay(alloc, src, out),
+        Ok(Some(Command::Gen { seed, frames, ops })) => make_and_run(alloc, seed, frames, ops, out),
+        Ok(_) => finish(out, USAGE.as_bytes(), Status::Usage),
         Err(_) => Status::NoMemory,
     }
 }

@@ -13,11 +13,11 @@ use Rattle.ax_tree.proofs.Arranged.{arranged_from, only_in, distinct_arranged}
 
 -- ---- lists without repeats
 
-not_seen : (b : Bool) (c : ℕ) (o : Option ℕ) → cond b (Some c) o ≡ None → (b ≡ false) × (o ≡ None)
+pub not_seen : (b : Bool) (c : ℕ) (o : Option ℕ) → cond b (Some c) o ≡ None → (b ≡ false) × (o ≡ None)
 not_seen true c o h = absurd (cc)
 not_seen false c o h = (refl, h)
 
-twice_apart : (seen cs : List ℕ) (z : ℕ) → first_repeated seen cs ≡ None → contains seen z ≡ true → contains cs z ≡ false
+pub twice_apart : (seen cs : List ℕ) (z : ℕ) → first_repeated seen cs ≡ None → contains seen z ≡ true → contains cs z ≡ false
 twice_apart seen [] z h s = refl
 twice_apart seen (c ∷ cs) z h s =
     let n = not_seen _ _ _ h in

@@ -1,11 +1,12 @@
 -- Lists of ids, and choices.
-use Rattle.std.proofs.Common.{Bool, List, Ok, Result, [], ap, arith, cond, eqb, false, length, not, refl, subst, sym, true, ℕ, ◌++◌, ◌||◌, ◌∷◌, ◌≡◌, ◌≤◌}
+use Rattle.std.proofs.Common.{Bool, List, Ok, Result, [], ap, arith, cond, eqb, false, length, not, refl, subst, sym, true, ℕ, ◌++◌, ◌||◌, ◌∷◌, ◌≡◌, ◌≤◌, ◌<◌, ◌+◌, drop, take, get_or, ◌∙◌}
 use Rattle.std.proofs.lemmas.Bool.{eqb-true, false_from_ne_true, false≢true}
 use Rattle.std.proofs.lemmas.Bool.Decides.{eqb_tells}
 use Rattle.std.specs.List.{filter}
 use Rattle.ax_trees.specs.Lists.{NoneTwice, any_that, common_prefix, contains, first_that, last_that}
 use Rattle.ax_trees.specs.Nodes.{tree_at}
 use Rattle.ax_trees.proofs.Trees.{by_go}
+use Rattle.std.proofs.lemmas.List.{drop_more, take_more}
 
 pub first_that_ext : (p q : ℕ → Bool) (cs : List ℕ) → ((z : ℕ) → p z ≡ q z) → first_that p cs ≡ first_that q cs
 first_that_ext p q [] h = refl
@@ -124,3 +125,28 @@ split false n xs ys = refl
 pub contains-append : (xs ys : List ℕ) (z : ℕ) → contains (xs ++ ys) z ≡ (contains xs z || contains ys z)
 contains-append [] ys z = refl
 contains-append (x ∷ xs) ys z = grind (arith, contains-append xs ys z)
+
+-- ---- what loops over a list of ids meet
+
+-- the item at an index
+pub record IsAt (xs : List ℕ) (i x : ℕ) : Type 0 where
+  pub low : i < length xs
+  pub item : x ≡ get_or xs i x
+
+pub drop_at : (xs : List ℕ) (i x : ℕ) → IsAt xs i x → drop i xs ≡ x ∷ drop (i + 1) xs
+drop_at xs i x a = drop_more xs i x a.low ∙ ap (λ y. y ∷ drop (i + 1) xs) (sym a.item)
+
+pub take_at : (xs : List ℕ) (i x : ℕ) → IsAt xs i x → take (i + 1) xs ≡ take i xs ++ x ∷ []
+take_at xs i x a = take_more xs i x a.low ∙ ap (λ y. take i xs ++ y ∷ []) (sym a.item)
+
+pub contains_push : (xs : List ℕ) (x z : ℕ) → contains (xs ++ x ∷ []) z ≡ cond (eqb x z) true (contains xs z)
+contains_push [] x z = grind arith
+contains_push (y ∷ ys) x z = grind (arith, contains_push ys x z)
+
+pub contains_next : (xs : List ℕ) (i x z : ℕ) → IsAt xs i x → contains (take (i + 1) xs) z ≡ cond (eqb x z) true (contains (take i xs) z)
+contains_next xs i x z a = ap (λ ys. contains ys z) (take_at xs i x a) ∙ contains_push (take i xs) x z
+
+-- two lists that share no id, one after the other
+pub once_append : (xs ys : List ℕ) → NoneTwice xs → NoneTwice ys → ((z : ℕ) → contains xs z ≡ true → contains ys z ≡ false) → NoneTwice (xs ++ ys)
+once_append [] ys o p h = p
+once_append (x ∷ xs) ys o p h = (grind (arith, contains-append xs ys x, o.0, h x, eqb_tells x x), once_append xs ys o.1 p (λ z g. h z (grind (arith, g))))

@@ -1,12 +1,13 @@
 -- Parents: each id's parent is the one in whose child list it stands.
 use Rattle.std.proofs.Common.{ℕ, ◌≡◌, true, eqb, List, [], refl, sym, ap, ◌∙◌, arith, Option, Some, None}
 use Rattle.std.proofs.lemmas.Bool.Decides.{eqb_tells}
-use Rattle.std.proofs.lemmas.Bool.{false≢true}
+use Rattle.std.proofs.lemmas.Bool.{false≢true, eqb-true, false_from_ne_true}
 use Rattle.std.specs.Prelude.{unwrap_or}
-use Rattle.ax_trees.specs.Trees.{Trees, bare, tree, has, has_root, IsDistinct}
+use Rattle.ax_trees.specs.Trees.{Trees, bare, tree, has, has_root, IsDistinct, roots}
 use Rattle.ax_trees.specs.Nodes.{Node, node_at, below, children, parent, parent_or}
-use Rattle.ax_trees.specs.Lists.{contains}
+use Rattle.ax_trees.specs.Lists.{contains, NoneTwice}
 use Rattle.ax_trees.proofs.Trees.{by_go, root_in, below_in, contains_roots, not_both}
+use Rattle.std.proofs.lemmas.Option.{same_Some}
 
 pub parent_or-parent : {X : Type 0} (f : Trees X) (z d : ℕ) → parent_or f z d ≡ unwrap_or (parent f z) d
 parent_or-parent bare z d = refl
@@ -86,3 +87,16 @@ child_listed f y z = sym (contains_roots (below f y) z) ∙ ap (λ js. contains 
 pub parent-same : {X E : Type 0} (f : Trees X) (g : Trees E) (z : ℕ) → IsDistinct f → IsDistinct g
     → ((y : ℕ) → contains (listed_children (node_at g y)) z ≡ contains (listed_children (node_at f y)) z) → parent g z ≡ parent f z
 parent-same f g z d e h = parent_same f g z d e (λ y. child_listed g y z ∙ (h y ∙ sym (child_listed f y z)))
+
+-- a node has the id at which it stands
+pub node_named : {X : Type 0} (f : Trees X) (z : ℕ) (n : Node X) → node_at f z ≡ Some n → n.id ≡ z
+node_named bare z n h = absurd (cc)
+node_named {X} (tree i x k r) z n h =
+    by_go (eqb i z)
+    (λ q. let h' : ◌≡◌ {A = Option (Node X)} (Some (record { id = i; known = x; children = roots k })) (Some n) = rw q at h in
+    ap (λ (u : Node X). u.id) (sym (same_Some _ _ h')) ∙ eqb-true i z q)
+    (λ q. by_go (has k z) (λ p. node_named k z n (rw (q, p) at h)) (λ p. node_named r z n (rw (q, p) at h)))
+
+pub roots_once : {X : Type 0} (f : Trees X) → IsDistinct f → NoneTwice (roots f)
+roots_once bare d = tt
+roots_once (tree i x k r) d = (contains_roots r i ∙ false_from_ne_true (has_root r i) (λ g. grind (arith, root_in r i g, d.1)), roots_once r d.4)

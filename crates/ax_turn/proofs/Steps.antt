@@ -12,7 +12,7 @@ use Rattle.std.proofs.lemmas.Bool.{ltb-true, ltb-false}
 use Rattle.std.proofs.lemmas.List.{set_comm}
 use Rattle.ax_turn.specs.declared.known.Known.{Known}
 use Rattle.ax_turn.specs.Makers.{AllOwn, NoneOwn, GrowsByOwn, GrowsByOthers}
-use Rattle.ax_turn.specs.Rule.{newcomer, spent, entered, left_with, cut_below, cut_above, end_of, joined, settled, Apart, Fits, Turned, took, released, learned}
+use Rattle.ax_turn.specs.Rule.{newcomer, spent, entered, left_with, cut_below, cut_above, end_of, joined, settled, SeatsApart, SeatFits, Turned, took, released, learned}
 use Rattle.ax_turn.proofs.Growing.{AllOwn-append, AllOwn-wider, AllOwn-right, no_entries, grows-refl, grows-trans, of_others, of_neither, none_of_empty, grows_between, none_after}
 
 module _ {A : Type 0} where
@@ -66,9 +66,9 @@ module _ {T E : Type 0} (entries : T → List E) (maker : E → ℕ) (name_of : 
       → (n ≡ 0 → (value : T) × (get_elem? homes 0 ≡ some (some (Some value))) × (entries value ≡ log) × (name_of value ≡ name))
       → (n ≡ 1 → (u : V) × (get_elem? (set s.views id w) holder ≡ some u) × (u.inside ≡ true))
       → AllOwn maker 0 makers log
-      → Fits maker n holder makers name log id w
-      → ((j : ℕ) (u : V) → j ≢ id → get_elem? s.views j ≡ some u → Fits maker n holder makers name log j u)
-      → ((j : ℕ) (u : V) → j ≢ id → get_elem? s.views j ≡ some u → Apart w u)
+      → SeatFits maker n holder makers name log id w
+      → ((j : ℕ) (u : V) → j ≢ id → get_elem? s.views j ≡ some u → SeatFits maker n holder makers name log j u)
+      → ((j : ℕ) (u : V) → j ≢ id → get_elem? s.views j ≡ some u → SeatsApart w u)
       → Rule record { words = set s.words 0 n; homes = homes; views = set s.views id w }
   replaced s r n holder id log homes v w at small home out made mine others apart =
       let one = r.one in
@@ -80,19 +80,19 @@ module _ {T E : Type 0} (entries : T → List E) (maker : E → ℕ) (name_of : 
         home = subst (λ (k : ℕ). k ≡ 0 → (value : T) × (get_elem? homes 0 ≡ some (some (Some value))) × (entries value ≡ log) × (name_of value ≡ name)) now home;
         out = subst (λ (k : ℕ). k ≡ 1 → (u : V) × (get_elem? (set s.views id w) holder ≡ some u) × (u.inside ≡ true)) now out;
         made = made;
-        each = subst (λ (k : ℕ). (j : ℕ) (u : V) → get_elem? (set s.views id w) j ≡ some u → Fits maker k holder makers name log j u) now
-            (λ j u e. ⊎_elim (λ (t : (j ≡ id) × (w ≡ u)). subst (λ (y : ℕ × V). Fits maker n holder makers name log y.0 y.1) (λ i. (sym t.0 i, t.1 i)) mine)
+        each = subst (λ (k : ℕ). (j : ℕ) (u : V) → get_elem? (set s.views id w) j ≡ some u → SeatFits maker k holder makers name log j u) now
+            (λ j u e. ⊎_elim (λ (t : (j ≡ id) × (w ≡ u)). subst (λ (y : ℕ × V). SeatFits maker n holder makers name log y.0 y.1) (λ i. (sym t.0 i, t.1 i)) mine)
             (λ (t : (j ≢ id) × (get_elem? s.views j ≡ some u)). others j u t.0 t.1) (at_set s.views id j w u e));
         apart = λ i j a b differ at_i at_j.
             ⊎_elim
             (λ (t : (i ≡ id) × (w ≡ a)).
             ⊎_elim
             (λ (q : (j ≡ id) × (w ≡ b)). absurd (differ (t.0 ∙ sym q.0)))
-            (λ (q : (j ≢ id) × (get_elem? s.views j ≡ some b)). subst (λ (x : V). Apart x b) t.1 (apart j b q.0 q.1))
+            (λ (q : (j ≢ id) × (get_elem? s.views j ≡ some b)). subst (λ (x : V). SeatsApart x b) t.1 (apart j b q.0 q.1))
             (at_set s.views id j w b at_j))
             (λ (t : (i ≢ id) × (get_elem? s.views i ≡ some a)).
             ⊎_elim
-            (λ (q : (j ≡ id) × (w ≡ b)). subst (λ (x : V). Apart a x) q.1 (λ n' p1 p2 p3 p4. apart i a t.0 t.1 n' p3 p4 p1 p2))
+            (λ (q : (j ≡ id) × (w ≡ b)). subst (λ (x : V). SeatsApart a x) q.1 (λ n' p1 p2 p3 p4. apart i a t.0 t.1 n' p3 p4 p1 p2))
             (λ (q : (j ≢ id) × (get_elem? s.views j ≡ some b)). r.apart i j a b differ t.1 q.1)
             (at_set s.views id j w b at_j))
             (at_set s.views id i w a at_i);
@@ -114,7 +114,7 @@ module _ {T E : Type 0} (entries : T → List E) (maker : E → ℕ) (name_of : 
       let home = r.home free in
       let fit = r.each id v at in
       let w : V = entered v r.log in
-      let others : (j : ℕ) (u : V) → j ≢ id → get_elem? s.views j ≡ some u → Fits maker 1 id makers name r.log j u = λ j u other there.
+      let others : (j : ℕ) (u : V) → j ≢ id → get_elem? s.views j ≡ some u → SeatFits maker 1 id makers name r.log j u = λ j u other there.
       let f = r.each j u there in
       record { inside = λ is. absurd (omega (arith, (f.inside is).0)); seen = f.seen; told = f.told; within = f.within; order = f.order; below = f.below; fixed = f.fixed } in (
         w,
@@ -169,7 +169,7 @@ module _ {T E : Type 0} (entries : T → List E) (maker : E → ℕ) (name_of : 
   -- another view of a seat that is not inside
   pub renewed : (s : St) (r : Rule s) (id : ℕ) (v w : V) → get_elem? s.views id ≡ some v → v.inside ≡ false → w.inside ≡ false → GrowsByOthers maker w.low w.high w.seen r.log → GrowsByOthers maker w.told_low w.told_high w.told r.log
       → ((n : ℕ) → w.told_low ≤ n → n < w.told_high → (w.low ≤ n) × (n < w.high)) → w.low ≤ w.high → w.high ≤ makers → (0 < w.makers → (w.makers ≡ makers) × (w.name ≡ name))
-      → ((j : ℕ) (u : V) → j ≢ id → get_elem? s.views j ≡ some u → Apart w u)
+      → ((j : ℕ) (u : V) → j ≢ id → get_elem? s.views j ≡ some u → SeatsApart w u)
       → (t : Rule record { words = s.words; homes = s.homes; views = set s.views id w }) × (t.log ≡ r.log) × (t.holder ≡ r.holder)
   unfolding replaced
   renewed s r id v w at idle idle' seen told within order below fixed apart =
@@ -202,8 +202,8 @@ module _ {T E : Type 0} (entries : T → List E) (maker : E → ℕ) (name_of : 
       sole zero a e = refl
       sole (suc i) a e = absurd (some-ne-none a (sym e))
 
-      only : (i : ℕ) (a : V) → get_elem? (newcomer (entries value) makers name ∷ []) i ≡ some a → Fits maker 0 0 makers name (entries value) i a
-      only zero a e = subst (Fits maker 0 0 makers name (entries value) 0) (some-injective _ a e) record {
+      only : (i : ℕ) (a : V) → get_elem? (newcomer (entries value) makers name ∷ []) i ≡ some a → SeatFits maker 0 0 makers name (entries value) i a
+      only zero a e = subst (SeatFits maker 0 0 makers name (entries value) 0) (some-injective _ a e) record {
         inside = λ is. absurd (off is);
         seen = grows-refl maker 0 makers (entries value);
         told = (entries value, refl, none_of_empty maker 0 0 (entries value) refl);
@@ -215,7 +215,7 @@ module _ {T E : Type 0} (entries : T → List E) (maker : E → ℕ) (name_of : 
       only (suc i) a e = absurd (some-ne-none a (sym e))
 
   -- a new seat comes with a view
-  pub arrived : (s : St) (r : Rule s) (w : V) → Fits maker (word s) r.holder makers name r.log (length s.views) w → ((j : ℕ) (u : V) → get_elem? s.views j ≡ some u → Apart w u)
+  pub arrived : (s : St) (r : Rule s) (w : V) → SeatFits maker (word s) r.holder makers name r.log (length s.views) w → ((j : ℕ) (u : V) → get_elem? s.views j ≡ some u → SeatsApart w u)
       → Rule record { words = s.words; homes = s.homes; views = s.views ++ w ∷ [] }
   arrived s r w mine apart = record {
     log = r.log;
@@ -225,17 +225,17 @@ module _ {T E : Type 0} (entries : T → List E) (maker : E → ℕ) (name_of : 
     home = r.home;
     out = λ one. let o = r.out one in (o.0, at_longer s.views (w ∷ []) r.holder o.0 o.1, o.2);
     made = r.made;
-    each = λ j u e. ⊎_elim (λ t. r.each j u t) (λ (t : (j ≡ length s.views) × (w ≡ u)). subst (λ (y : ℕ × V). Fits maker (word s) r.holder makers name r.log y.0 y.1) (λ i. (sym t.0 i, t.1 i)) mine) (at_snoc_or s.views w u j e);
+    each = λ j u e. ⊎_elim (λ t. r.each j u t) (λ (t : (j ≡ length s.views) × (w ≡ u)). subst (λ (y : ℕ × V). SeatFits maker (word s) r.holder makers name r.log y.0 y.1) (λ i. (sym t.0 i, t.1 i)) mine) (at_snoc_or s.views w u j e);
     apart = λ i j a b differ at_i at_j.
         ⊎_elim
         (λ (t : get_elem? s.views i ≡ some a).
         ⊎_elim
         (λ (q : get_elem? s.views j ≡ some b). r.apart i j a b differ t q)
-        (λ (q : (j ≡ length s.views) × (w ≡ b)). subst (λ (x : V). Apart a x) q.1 (λ n p1 p2 p3 p4. apart i a t n p3 p4 p1 p2))
+        (λ (q : (j ≡ length s.views) × (w ≡ b)). subst (λ (x : V). SeatsApart a x) q.1 (λ n p1 p2 p3 p4. apart i a t n p3 p4 p1 p2))
         (at_snoc_or s.views w b j at_j))
         (λ (t : (i ≡ length s.views) × (w ≡ a)).
         ⊎_elim
-        (λ (q : get_elem? s.views j ≡ some b). subst (λ (x : V). Apart x b) t.1 (apart j b q))
+        (λ (q : get_elem? s.views j ≡ some b). subst (λ (x : V). SeatsApart x b) t.1 (apart j b q))
         (λ (q : (j ≡ length s.views) × (w ≡ b)). absurd (differ (t.0 ∙ sym q.0)))
         (at_snoc_or s.views w b j at_j))
         (at_snoc_or s.views w a i at_i);
@@ -268,7 +268,7 @@ module _ {T E : Type 0} (entries : T → List E) (maker : E → ℕ) (name_of : 
         fixed = fit.fixed;
       }
       (λ j u here. ⊎_elim
-      (λ (x : (j ≡ id) × (cut_below at v ≡ u)). subst (λ (y : V). Apart (cut_above at v) y) x.1 (λ n p q p' q'. let a : at ≤ n = p in let b : n < at = q' in absurd (omega arith)))
+      (λ (x : (j ≡ id) × (cut_below at v ≡ u)). subst (λ (y : V). SeatsApart (cut_above at v) y) x.1 (λ n p q p' q'. let a : at ≤ n = p in let b : n < at = q' in absurd (omega arith)))
       (λ (x : (j ≢ id) × (get_elem? s.views j ≡ some u)). λ n p q. let p' : at ≤ n = p in r.apart id j v u (λ e. x.0 (sym e)) there x.1 n (omega arith) q)
       (at_set s.views id j (cut_below at v) u here))
 
@@ -373,7 +373,7 @@ module _ {T E : Type 0} (entries : T → List E) (maker : E → ℕ) (name_of : 
       let mine = subst (λ (l : List E). Lists v w l (ltb (length v.seen) (length w.seen))) (sym first.1) logs in
       let second = renewed s' first.0 id v both (set_else s.views other id spent (λ e. differ (sym e)) ∙ there) idle idle mine.0 mine.1 mine.2 all.0 all.1 f.fixed
       (λ j u apart here. ⊎_elim
-      (λ (t : (j ≡ other) × (spent ≡ u)). subst (λ (x : V). Apart both x) t.1 (λ n p q p' q'. absurd (omega arith)))
+      (λ (t : (j ≡ other) × (spent ≡ u)). subst (λ (x : V). SeatsApart both x) t.1 (λ n p q p' q'. absurd (omega arith)))
       (λ (t : (j ≢ other) × (get_elem? s.views j ≡ some u)). λ n p q p' q'. ⊎_elim
       (λ (x : (v.low ≤ n) × (n < v.high)). r.apart id j v u (λ e. apart (sym e)) there t.1 n x.0 x.1 p' q')
       (λ (x : (w.low ≤ n) × (n < w.high)). r.apart other j w u (λ e. t.0 (sym e)) was t.1 n x.0 x.1 p' q')

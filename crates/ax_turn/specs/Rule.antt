@@ -49,14 +49,14 @@ module _ {E : Type 0} where
   settled v = record v { told = []; told_low = 0; told_high = 0 }
 
   -- no number is in both
-  abbrev pub Apart : Known E → Known E → Type 0
-  Apart v w = (n : ℕ) → v.low ≤ n → n < v.high → w.low ≤ n → n < w.high → ⊥
+  abbrev pub SeatsApart : Known E → Known E → Type 0
+  SeatsApart v w = (n : ℕ) → v.low ≤ n → n < v.high → w.low ≤ n → n < w.high → ⊥
 
 -- What the rule says of one seat. `log` is the list of entries at home, or that of the seat inside, which is `holder`.
 -- A seat inside has seen just that list, and stands for a number. Every seat has seen a beginning of the list, and
 -- beyond it stand no entries of its numbers. A joined seat has been told such a beginning too. `makers` and `name` are
 -- the same in all seats but spent ones.
-pub record Fits {E : Type 0} (maker : E → ℕ) (word holder makers : ℕ) (name : List ℕ) (log : List E) (seat : ℕ) (v : Known E) : Type 0 where
+pub record SeatFits {E : Type 0} (maker : E → ℕ) (word holder makers : ℕ) (name : List ℕ) (log : List E) (seat : ℕ) (v : Known E) : Type 0 where
   pub inside : v.inside ≡ true → (word ≡ 1) × (seat ≡ holder) × (v.seen ≡ log) × (v.low < v.high)
   pub seen : GrowsByOthers maker v.low v.high v.seen log
   pub told : GrowsByOthers maker v.told_low v.told_high v.told log
@@ -75,8 +75,8 @@ pub record Turned {T E : Type 0} (entries : T → List E) (maker : E → ℕ) (n
   pub home : slice_index s.words 0 ≡ 0 → (value : T) × (get_elem? s.homes 0 ≡ some (some (Some value))) × (entries value ≡ log) × (name_of value ≡ name)
   pub out : slice_index s.words 0 ≡ 1 → (v : Known E) × (get_elem? s.views holder ≡ some v) × (v.inside ≡ true)
   pub made : AllOwn maker 0 makers log
-  pub each : (seat : ℕ) (v : Known E) → get_elem? s.views seat ≡ some v → Fits maker (slice_index s.words 0) holder makers name log seat v
-  pub apart : (i j : ℕ) (v w : Known E) → ¬ (i ≡ j) → get_elem? s.views i ≡ some v → get_elem? s.views j ≡ some w → Apart v w
+  pub each : (seat : ℕ) (v : Known E) → get_elem? s.views seat ≡ some v → SeatFits maker (slice_index s.words 0) holder makers name log seat v
+  pub apart : (i j : ℕ) (v w : Known E) → ¬ (i ≡ j) → get_elem? s.views i ≡ some v → get_elem? s.views j ≡ some w → SeatsApart v w
 
 module _ {T E : Type 0} (entries : T → List E) (maker : E → ℕ) (name_of : T → List ℕ) where
   -- what a seat knows, and what it holds

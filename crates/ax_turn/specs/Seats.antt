@@ -38,7 +38,7 @@ module _ {T E : Type 0} where
   }
 
   -- what is true of each seat between two calls
-  pub record IsWhole (p : Seat (Option T) (Known E)) : Type 0 where
+  pub record IsSeatWhole (p : Seat (Option T) (Known E)) : Type 0 where
     pub hand : p.me.1 ≡ hand_of p.me.0.inside
     pub some_maker : 0 < p.me.0.makers
     pub order : p.me.0.low ≤ p.me.0.high

@@ -13,7 +13,7 @@ pub struct SeatOver<T, E> {
 }
 
 impl<T, E> Model for SeatOver<T, E> {
-    ghost use Rattle.ax_turn.specs.Seats.{SeatView, seat_view_coded, seat_view, IsWhole};
+    ghost use Rattle.ax_turn.specs.Seats.{SeatView, seat_view_coded, seat_view, IsSeatWhole};
 
     ghost Value = { SeatView E };
 
@@ -21,7 +21,7 @@ impl<T, E> Model for SeatOver<T, E> {
 
     ghost view = { λ s. seat_view s.place };
 
-    ghost invariant = { λ s. IsWhole s.place };
+    ghost invariant = { λ s. IsSeatWhole s.place };
 }
 
 /// A seat of a `Turn<T>`.

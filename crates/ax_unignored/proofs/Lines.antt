@@ -16,7 +16,7 @@ use Rattle.ax_stitch.specs.Levels.{AreFormed, levels_below, line_in, line_of, li
 use Rattle.ax_stitch.proofs.Orders.{parent_in, child_in}
 use Rattle.ax_stitch.proofs.Hosts.{host_is, first_hangs_nowhere}
 use Rattle.ax_stitch.proofs.Climbs.{up}
-use Rattle.ax_stitch.proofs.Places.{Stands, stands, level_from, there_stands, host_listed, listed_node, formed_less}
+use Rattle.ax_stitch.proofs.Places.{PlaceStands, stands, level_from, there_stands, host_listed, listed_node, formed_less}
 use Rattle.ax_stitch.proofs.Under.{AllFormed, formed_up, all_formed, IsPlaced, placed, line_done, line_first, first_over}
 
 line_root : {X : Type 0} (t : ℕ) (over : List Place) (w : Trees X) (z : ℕ) → IsDistinct w → has_root w z ≡ true → line_in t over w z ≡ over
@@ -94,7 +94,7 @@ host_step f t q (suc j) n first e s h w b =
 pub step_up : (f : Forest) (p q : Place) → has_place (stitched f) p ≡ true → AreFormed 8 f p.tree → Some q ≡ option_and_then parent_of (find_placed (stitched f) p) → IsStep f p q
 step_up f p q h w e = go (placed f p h w) (stands f p h) (e ∙ parent_line f p h w)
   where
-    go : (s : (s : Placed) × IsPlaced f p s) → Stands f p → Some q ≡ first_of (line 8 f p) → IsStep f p q
+    go : (s : (s : Placed) × IsPlaced f p s) → PlaceStands f p → Some q ≡ first_of (line 8 f p) → IsStep f p q
     go s st k = cases (parent w' z) refl (host_of f p.tree) refl (k ∙ first)
       where
         w' : Trees Look

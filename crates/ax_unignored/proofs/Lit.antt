@@ -15,7 +15,7 @@ use Rattle.ax_rules.specs.Stitched.{Placed, places, placed_from_first, stitched,
 use Rattle.ax_rules.specs.Unignored.{is_unignored, unignored, is_shown_place}
 use Rattle.ax_stitch.proofs.Hosts.{AllOf, all_weaker}
 use Rattle.ax_stitch.proofs.Places.{same_is}
-use Rattle.ax_stitch.proofs.Under.{Told, told}
+use Rattle.ax_stitch.proofs.Under.{FirstTold, told}
 use Rattle.ax_stitch.proofs.Corners.{node_of_told}
 use Rattle.ax_stitch.proofs.Sound.{sound_formed}
 use Rattle.ax_unignored.specs.Shows.{is_lit, shows_node, shows}
@@ -25,7 +25,7 @@ pub lit_placed : (f : Forest) → IsSound f → AllOf (λ s. is_unignored s ≡ 
 unfolding stitched is_unignored
 lit_placed f s = go (first_tree f) refl
   where
-    one : (t : ℕ) (p : Placed) → Told f t p → not (has_state p.look.states ignored_state) ≡ shows f p.place
+    one : (t : ℕ) (p : Placed) → FirstTold f t p → not (has_state p.look.states ignored_state) ≡ shows f p.place
     one t p k =
         let n = k.known (λ n. sound_formed n f p.place.tree s) in
         sym (ap (λ o. shows_node (option_and_then (λ (m : Tree). node_at m.trees p.place.node) o)) n.live ∙ ap shows_node n.look)
@@ -33,8 +33,8 @@ lit_placed f s = go (first_tree f) refl
     go : (o : Option ℕ) → first_tree f ≡ o → AllOf (λ (s : Placed). not (has_state s.look.states ignored_state) ≡ shows f s.place) (placed_from_first f o)
     go None e = tt
     go (Some t) e =
-        all_weaker (Told f t) (λ (s : Placed). not (has_state s.look.states ignored_state) ≡ shows f s.place) (placed_from_first f (Some t)) (one t)
-        (subst (λ o. AllOf (Told f t) (placed_from_first f o)) e (told f t e))
+        all_weaker (FirstTold f t) (λ (s : Placed). not (has_state s.look.states ignored_state) ≡ shows f s.place) (placed_from_first f (Some t)) (one t)
+        (subst (λ o. AllOf (FirstTold f t) (placed_from_first f o)) e (told f t e))
 
 lit_filter : (p : Place → Bool) (l : List Placed) → AllOf (λ s. is_unignored s ≡ p s.place) l → places (filter is_unignored l) ≡ filter p (places l)
 lit_filter p [] a = refl

@@ -1,5 +1,5 @@
 -- A hash map that keeps a tree has as many entries as the tree has nodes.
-use Rattle.std.proofs.Common.{ℕ, suc, ◌≡◌, true, false, eqb, List, [], ◌∷◌, ◌++◌, length, Option, Some, None, refl, sym, ap, ◌∙◌, subst, arith}
+use Rattle.std.proofs.Common.{ℕ, suc, ◌≡◌, true, false, eqb, List, [], ◌∷◌, length, Option, Some, None, refl, sym, ap, ◌∙◌, subst, arith}
 use Rattle.std.specs.Prelude.{option_map, is_some, nat_eq}
 use Rattle.std.specs.List.{IsDistinct as AreDistinct, AllByRecursion}
 use Rattle.std.specs.Map.{keys_of, lookup}
@@ -10,7 +10,7 @@ use Rattle.ax_trees.specs.Trees.{Trees, bare, tree, ids, count, IsDistinct}
 use Rattle.ax_trees.specs.Spots.{Spot, spot, removed}
 use Rattle.ax_trees.specs.Lists.{contains, NoneTwice}
 use Rattle.ax_trees.proofs.Trees.{by_go}
-use Rattle.ax_trees.proofs.Lists.{contains-append}
+use Rattle.ax_trees.proofs.Lists.{contains-append, once_append}
 use Rattle.ax_trees.proofs.Times.{contains-ids, length-ids, has-spot}
 use Rattle.ax_views.specs.Kept.{Keeps}
 
@@ -53,22 +53,18 @@ same_length (x ∷ xs) ys o p h =
 
 -- ---- the keys of a map
 
-contains-keys : {E : Type 0} (es : List (ℕ × E)) (z : ℕ) → contains (keys_of es) z ≡ is_some (lookup (nat_eq z) es)
+pub contains-keys : {E : Type 0} (es : List (ℕ × E)) (z : ℕ) → contains (keys_of es) z ≡ is_some (lookup (nat_eq z) es)
 contains-keys [] z = refl
 contains-keys ((k, e) ∷ es) z =
     by_go (eqb z k)
     (λ q. let other : eqb k z ≡ true = grind (arith, eqb_tells z k, eqb_tells k z, q) in rw (q, other) refl)
     (λ q. let other : eqb k z ≡ false = grind (arith, eqb_tells z k, eqb_tells k z, q) in rw (q, other) (contains-keys es z))
 
-length-keys : {E : Type 0} (es : List (ℕ × E)) → length (keys_of es) ≡ length es
+pub length-keys : {E : Type 0} (es : List (ℕ × E)) → length (keys_of es) ≡ length es
 length-keys [] = refl
 length-keys (e ∷ es) = ap suc (length-keys es)
 
 -- ---- the ids of a tree
-
-once_append : (xs ys : List ℕ) → NoneTwice xs → NoneTwice ys → ((z : ℕ) → contains xs z ≡ true → contains ys z ≡ false) → NoneTwice (xs ++ ys)
-once_append [] ys o p h = p
-once_append (x ∷ xs) ys o p h = (grind (arith, contains-append xs ys x, o.0, h x, eqb_tells x x), once_append xs ys o.1 p (λ z g. h z (grind (arith, g))))
 
 pub once_ids : {X : Type 0} (f : Trees X) → IsDistinct f → NoneTwice (ids f)
 once_ids bare d = tt
@@ -77,15 +73,15 @@ once_ids (tree i x k r) d = (
   once_append (ids k) (ids r) (once_ids k d.3) (once_ids r d.4) (λ z g. contains-ids r z ∙ d.2.apart z (sym (contains-ids k z) ∙ g)),
 )
 
-is_some-map : {A B : Type 0} (f : A → B) (o : Option A) → is_some (option_map f o) ≡ is_some o
+pub is_some-map : {A B : Type 0} (f : A → B) (o : Option A) → is_some (option_map f o) ≡ is_some o
 is_some-map f None = refl
 is_some-map f (Some a) = refl
 
-none_equal : (x : ℕ) (ks : List ℕ) → AllByRecursion (λ y. nat_eq x y ≡ false) ks → contains ks x ≡ false
+pub none_equal : (x : ℕ) (ks : List ℕ) → AllByRecursion (λ y. nat_eq x y ≡ false) ks → contains ks x ≡ false
 none_equal x [] a = refl
 none_equal x (k ∷ ks) a = grind (arith, eqb_tells x k, eqb_tells k x, a.0, none_equal x ks a.1)
 
-once_distinct_keys : (ks : List ℕ) → AreDistinct nat_eq ks → NoneTwice ks
+pub once_distinct_keys : (ks : List ℕ) → AreDistinct nat_eq ks → NoneTwice ks
 unfolding AreDistinct
 once_distinct_keys [] d = tt
 once_distinct_keys (k ∷ ks) d = (none_equal k ks d.0, once_distinct_keys ks d.1)

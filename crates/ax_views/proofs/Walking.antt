@@ -124,7 +124,7 @@ heights_at f zs i z h e =
 
 -- ---- in pre-order
 
-reverse-push : (js : List ℕ) (i : ℕ) → reverse (js ++ i ∷ []) ≡ i ∷ reverse js
+pub reverse-push : (js : List ℕ) (i : ℕ) → reverse (js ++ i ∷ []) ≡ i ∷ reverse js
 reverse-push js i = reverse-append js (i ∷ [])
 
 -- the trees that are still to be visited have their roots on the stack, the first on top

@@ -1,3 +1,4 @@
+//! Walks up a tree.
 ghost use Rattle.std.specs.Prelude.{◌≡◌, IfOk};
 ghost use Rattle.ax_trees.specs.Trees.{has};
 ghost use Rattle.ax_trees.specs.Nodes.{below, chain, depth};

@@ -1,3 +1,4 @@
+//! Entries of ids that are gone.
 ghost use Rattle.std.specs.Prelude.{◌≡◌, ℕ, None, nat_eq, if◌then◌else◌};
 ghost use Rattle.std.specs.HashMap.{get};
 ghost use Rattle.ax_trees.specs.Lists.{contains};

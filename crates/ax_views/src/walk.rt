@@ -1,3 +1,4 @@
+//! Walks down a tree.
 ghost use Rattle.std.specs.Prelude.{◌≡◌, IfOk};
 ghost use Rattle.ax_trees.specs.Trees.{height};
 ghost use Rattle.ax_trees.specs.Nodes.{below, pre};

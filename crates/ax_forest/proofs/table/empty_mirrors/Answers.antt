@@ -1,13 +1,19 @@
-use Rattle.std.proofs.Common.{◌+◌, take}
-use Rattle.ax_order.proofs.Filters.{contains_next}
-use Rattle.ax_tree.specs.Tree.{empty}
-use Rattle.ax_forest.proofs.ByIds.{filled_next}
+use Rattle.std.proofs.Common.{◌+◌, ◌∙◌, take, ap}
+use Rattle.std.specs.Ordering.{nat_cmp}
+use Rattle.std.specs.FinMap as fin
+use Rattle.ax_by_id.proofs.Maps.{put_at}
+use Rattle.ax_trees.proofs.Lists.{contains_next}
+use Rattle.ax_forest.proofs.Showing.{empty_next}
 use Rattle.ax_forest.proofs.table.empty_mirrors.Goals as goal
+
+pub loop-tree-init : goal.loop-tree-init
+loop-tree-init c t = ap (λ m. fin.get m t) c.new-mirrors.ensures ∙ fin.get-empty nat_cmp t
 
 pub loop-tree-preserved : goal.loop-tree-preserved
 loop-tree-preserved c =
     let ts = c.args.trees.now in
     let i = c.loop-tree.tree-index in
     let t = c.tree-item.result in
-    filled_next empty (take i ts) (take (i + 1) ts) t c.loop-tree.mirrors c.fill_empty.new.mirrors (λ z. contains_next ts i t z (record { low = c.loop-tree-test.true; item = c.tree-item.is }))
-    c.in_ok-fill_empty.ensures.puts c.in_ok-fill_empty.ensures.place c.in_ok-fill_empty.ensures.places c.loop-tree.invariant
+    let old = c.loop-tree.mirrors in
+    empty_next (take i ts) (take (i + 1) ts) t old c.put.new.self (λ z. contains_next ts i t z (record { low = c.loop-tree-test.true; item = c.tree-item.is }))
+    (λ u. ap (λ m. fin.get m u) (c.in_ok-put.ensures.ok ∙ ap (fin.insert old t) c.new.ensures) ∙ put_at old t _ u) c.loop-tree.invariant

@@ -1,7 +1,6 @@
 use Rattle.std.proofs.Common.{take}
-use Rattle.ax_tree.specs.Tree.{empty}
-use Rattle.ax_forest.specs.ById.{IsFilled}
+use Rattle.ax_forest.specs.Shown.{AreEmpty}
 use Rattle.ax_forest.proofs.table.empty_mirrors.Given as goal
 
 abbrev pub invariant-loop-tree : goal.invariant-loop-tree
-invariant-loop-tree l = IsFilled empty (take l.tree-index l.trees) l.mirrors
+invariant-loop-tree l = AreEmpty (take l.tree-index l.trees) l.mirrors

@@ -1,8 +1,8 @@
 use Rattle.std.proofs.Common.{◌+◌, take}
-use Rattle.ax_order.proofs.Filters.{contains_next}
 use Rattle.ax_forest.specs.Tallied.{first_tally}
 use Rattle.ax_forest.proofs.ByIds.{filled_next}
 use Rattle.ax_forest.proofs.tally.first_tallies.Goals as goal
+use Rattle.ax_trees.proofs.Lists.{contains_next}
 
 pub loop-tree-preserved : goal.loop-tree-preserved
 loop-tree-preserved c =

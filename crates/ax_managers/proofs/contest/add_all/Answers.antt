@@ -1,9 +1,9 @@
 use Rattle.std.proofs.Common.{◌≡◌, ◌∙◌, ◌||◌, cond, true, eqb, ap, arith}
 use Rattle.std.proofs.lemmas.List.{take_all}
 use Rattle.ax_trees.specs.Lists.{contains}
-use Rattle.ax_order.proofs.Filters.{contains_next}
 use Rattle.ax_managers.proofs.Lists.{contains_with}
 use Rattle.ax_managers.proofs.contest.add_all.Goals as goal
+use Rattle.ax_trees.proofs.Lists.{contains_next}
 
 pub loop-id-preserved : goal.loop-id-preserved
 loop-id-preserved c z =

@@ -10,8 +10,8 @@ use Rattle.ax_managers.proofs.contest.firsts_of.Goals as goal
 pub loop-id-preserved : goal.loop-id-preserved
 loop-id-preserved c u =
     c.in_ok-add_first.ensures u
-    ∙ (ap (λ o. or_else o (cond (is_id c.known_name.result u) (Some c.id-item.result) None)) (c.loop-id.invariant u)
-    ∙ (ap (λ o. or_else (first_that (λ z. is_id (get nat_eq c.args.names.now z) u) (take c.loop-id.id-index c.args.ids.now)) (cond (is_id o u) (Some c.id-item.result) None)) c.known_name.ensures
+    ∙ (ap (λ o. or_else o (cond (is_id c.name_in.result u) (Some c.id-item.result) None)) (c.loop-id.invariant u)
+    ∙ (ap (λ o. or_else (first_that (λ z. is_id (get nat_eq c.args.names.now z) u) (take c.loop-id.id-index c.args.ids.now)) (cond (is_id o u) (Some c.id-item.result) None)) c.name_in.ensures
     ∙ sym (first_next (λ z. is_id (get nat_eq c.args.names.now z) u) c.args.ids.now c.loop-id.id-index c.id-item.result (record { low = c.loop-id-test.true; item = c.id-item.is }))))
 
 pub returns : goal.returns

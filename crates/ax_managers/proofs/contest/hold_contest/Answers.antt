@@ -14,4 +14,6 @@ returns g c = record {
   names = λ z. search rules;
   hosts = λ u. c.in_ok-hosts.ensures u ∙ ap (first_that (λ z. is_id (get nat_eq c.in_ok-names.names z) u)) (search rules);
   rivals = c.in_ok-rivals.ensures ∙ ap (filter (λ z. is_rival (get nat_eq c.in_ok-hosts.hosts) (get nat_eq c.in_ok-names.names z) z)) c.as_slice-5.ensures.ids;
+  marking = c.in_ok-watched.ensures.marking;
+  watched = λ z h. c.in_ok-watched.ensures.watched z (search rules);
 }

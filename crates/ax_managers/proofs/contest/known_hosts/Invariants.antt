@@ -1,6 +1,6 @@
-use Rattle.std.proofs.Common.{◌≡◌, ◌++◌, drop, filter_map, nat_eq}
-use Rattle.std.specs.HashMap.{get}
+use Rattle.std.proofs.Common.{◌≡◌, ◌++◌, drop, filter_map}
+use Rattle.std.specs.FinMap as fin
 use Rattle.ax_managers.proofs.contest.known_hosts.Given as goal
 
 abbrev pub invariant-loop-tree : goal.invariant-loop-tree
-invariant-loop-tree l = l.hosts ++ filter_map (get nat_eq l.known) (drop l.tree-index l.trees) ≡ filter_map (get nat_eq l.known) l.trees
+invariant-loop-tree l = l.hosts ++ filter_map (fin.get l.known) (drop l.tree-index l.trees) ≡ filter_map (fin.get l.known) l.trees

@@ -1,20 +1,37 @@
-use Rattle.std.proofs.Common.{◌≡◌, ℕ, cond, eqb, sym, subst, refl, nat_eq, Option, Some}
-use Rattle.std.specs.Prelude.{IsSome}
-use Rattle.std.specs.HashMap.{get}
-use Rattle.ax_managers.specs.declared.summary.Summary.{Summary}
-use Rattle.ax_managers.proofs.Forests.{stands_retold, stands_says}
-use Rattle.ax_managers.proofs.Shown.{sound_put, on_ok, on_err, told_put}
+use Rattle.std.proofs.Common.{◌≡◌, ◌∙◌, sym, ap, subst}
+use Rattle.std.specs.Option.{unwrap_or}
+use Rattle.std.specs.FinMap as fin
+use Rattle.std.proofs.lemmas.Option.{same_Some}
+use Rattle.ax_by_id.proofs.Maps.{put_at}
+use Rattle.ax_managers.specs.Managed.{IsToldOf}
+use Rattle.ax_managers.specs.Shown.{Agrees, AllAgree}
+use Rattle.ax_managers.proofs.Results.{on_ok, on_both}
+use Rattle.ax_managers.proofs.Shown.{agree_put, still_told}
 use Rattle.ax_managers.proofs.managers.retouch.Goals as goal
 
-pub returns-in-Some : goal.returns-in-Some
-returns-in-Some g c =
-    let had : get nat_eq c.args.trees.now c.args.t ≡ Some c.in-Some.summary.now = sym c.in-Some.ensures.value in
-    let there = subst (λ (o : Option Summary). IsSome o) c.in-Some.ensures.value refl in
-    let put : (u : ℕ) → get nat_eq (c.get_mut.follows.lender c.retell.new.summary) u ≡ cond (eqb c.args.t u) (Some c.retell.new.summary) (get nat_eq c.args.trees.now u) = ((c.get_mut.follows.holds c.retell.new.summary).3 there).0 in
+pub returns-in-Some-2-clause-ok : goal.returns-in-Some-2-clause-ok
+returns-in-Some-2-clause-ok g c = on_ok c.put.result (λ e s n had of h.
+    let new = g.T.TreeView.tree c.args.tree.now in
+    let same : c.in-Some.summary.now ≡ s = same_Some c.in-Some.summary.now s (c.in-Some.ensures ∙ had) in
     record {
-      ok = on_ok c.retell.result (λ says f m a l h.
-          stands_retold (get nat_eq c.args.trees.now) (get nat_eq (c.get_mut.follows.lender c.retell.new.summary)) f c.args.t a (g.T.TreeView.tree c.args.tree.now) m c.retell.new.summary l
-          (says m (stands_says (get nat_eq c.args.trees.now) (get nat_eq c.args.trees.now) f c.args.t a m c.in-Some.summary.now l had) h) put) c.retell.ensures.says;
-      sound = λ a. sound_put (get nat_eq c.args.trees.now) (get nat_eq (c.get_mut.follows.lender c.retell.new.summary)) c.args.t c.retell.new.summary a (c.retell.ensures.sound (a c.args.t c.in-Some.summary.now had)) put;
-      err = on_err c.retell.result (λ same. told_put (get nat_eq c.args.trees.now) (get nat_eq (c.get_mut.follows.lender c.retell.new.summary)) c.args.t c.in-Some.summary.now c.retell.new.summary had same put) c.retell.ensures.err;
+      told = c.in-Some-2.summary;
+      of = subst (λ o. IsToldOf new (unwrap_or o c.in-Some.summary.now)) c.in-Some-2.is (c.in_ok-summary.ensures.of n (subst (IsToldOf n) (sym same) of) h);
+      puts = λ u. ap (λ m. fin.get m u) e ∙ put_at c.args.trees.now c.args.t c.in-Some-2.summary u;
+    }) c.put.ensures.ok
+
+pub returns-in-Some-2-clause-agree : goal.returns-in-Some-2-clause-agree
+returns-in-Some-2-clause-agree g c a =
+    on_both c.put.result
+    (λ e. agree_put c.args.trees.now c.put.new.self c.args.t c.in-Some-2.summary a (subst (λ o. Agrees (unwrap_or o c.in-Some.summary.now)) c.in-Some-2.is c.in_ok-summary.ensures.agrees)
+    (λ u. ap (λ m. fin.get m u) e ∙ put_at c.args.trees.now c.args.t c.in-Some-2.summary u))
+    (λ e. subst AllAgree (sym e) a) c.put.ensures.ok c.put.ensures.err
+
+pub returns-in-None-clause-ok : goal.returns-in-None-clause-ok
+returns-in-None-clause-ok g c s n had of h =
+    let new = g.T.TreeView.tree c.args.tree.now in
+    let same : c.in-Some.summary.now ≡ s = same_Some c.in-Some.summary.now s (c.in-Some.ensures ∙ had) in
+    record {
+      told = s;
+      of = subst (IsToldOf new) same (subst (λ o. IsToldOf new (unwrap_or o c.in-Some.summary.now)) c.in-None.is (c.in_ok-summary.ensures.of n (subst (IsToldOf n) (sym same) of) h));
+      puts = still_told (fin.get c.args.trees.now) c.args.t s had;
     }

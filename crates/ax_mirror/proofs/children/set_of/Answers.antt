@@ -1,6 +1,6 @@
 use Rattle.std.proofs.Common.{◌∙◌, ap, sym, cond, eqb, true}
-use Rattle.ax_mirror.proofs.Lists.{contains_next}
 use Rattle.ax_mirror.proofs.children.set_of.Goals as goal
+use Rattle.ax_trees.proofs.Lists.{contains_next}
 
 pub loop-id-preserved : goal.loop-id-preserved
 loop-id-preserved c z =

@@ -8,7 +8,7 @@ use Rattle.ax_trees.specs.Nodes.{below}
 use Rattle.ax_trees.specs.Changes.{with_node}
 use Rattle.ax_mirror.specs.declared.entries.Entry.{Entry}
 use Rattle.ax_mirror.specs.Placed.{Nodes}
-use Rattle.ax_mirror.specs.Kept.{Keeps}
+use Rattle.ax_mirror.specs.Kept.{KeepsDraft}
 use Rattle.ax_mirror.proofs.Tracks.{track_then}
 use Rattle.ax_mirror.proofs.Begins.{below_is, tells_below, keeps_cleared, keeps_absent, made_put}
 use Rattle.std.proofs.lemmas.Bool.{false≢true}
@@ -29,7 +29,7 @@ returns-clause-ok g c = λ w k.
     sym (ap reverse (c.in_ok-push_reversed.ensures.ok ∙ ap (λ (js : List ℕ). js ++ reverse x.node.children) c.new-gone.ensures) ∙ reverse-reverse x.node.children ∙ below_is m c.take_out.new.draft.nodes c.put_pending.new.draft.nodes c.args.id x c.args.draft.now.root w k c.in-Some.ensures) in
     let out : (y : ℕ) → map.get c.take_out.new.draft.nodes y ≡ cond (has (below w c.args.id) y) None (map.get m y) =
     c.in_ok-take_out.ensures.out.out (below w c.args.id) (tells_below m c.take_out.new.draft.nodes c.put_pending.new.draft.nodes c.args.id x c.args.draft.now.root w k c.in-Some.ensures) tops in
-    subst (λ (r : Option ℕ). Keeps c.put_pending.new.draft.nodes r (with_node w c.args.id None bare)) (sym (c.in_ok-put_pending.ensures.puts.root ∙ c.in_ok-take_out.ensures.out.root))
+    subst (λ (r : Option ℕ). KeepsDraft c.put_pending.new.draft.nodes r (with_node w c.args.id None bare)) (sym (c.in_ok-put_pending.ensures.puts.root ∙ c.in_ok-take_out.ensures.out.root))
     (keeps_cleared m c.take_out.new.draft.nodes c.put_pending.new.draft.nodes c.args.id x c.args.draft.now.root w k c.in-Some.ensures out c.in_ok-put_pending.ensures.puts.nodes)
 
 pub returns-clause-made : goal.returns-clause-made

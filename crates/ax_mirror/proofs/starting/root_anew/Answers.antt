@@ -3,7 +3,7 @@ use Rattle.std.specs.Prelude.{Option}
 use Rattle.std.specs.FinMap as map
 use Rattle.ax_trees.specs.Trees.{bare, tree}
 use Rattle.ax_mirror.specs.Placed.{Nodes, pending_entry}
-use Rattle.ax_mirror.specs.Kept.{Keeps}
+use Rattle.ax_mirror.specs.Kept.{KeepsDraft}
 use Rattle.ax_mirror.proofs.Begins.{keeps_lone, made_lone, track_lone}
 use Rattle.ax_mirror.specs.Accounts.{no_id, is_id}
 use Rattle.ax_mirror.proofs.Accounts.{acc_then, acc_forget}
@@ -14,7 +14,7 @@ pub returns-clause-ok : goal.returns-clause-ok
 returns-clause-ok g c = λ w k.
     let n : c.put_pending.new.draft.nodes ≡ map.insert map.empty c.args.root (pending_entry None 1 c.args.root) =
     c.in_ok-put_pending.ensures.puts.nodes ∙ ap (λ (m : Nodes). map.insert m c.args.root (pending_entry None 1 c.args.root)) c.new.ensures in
-    subst (λ (o : Option ℕ). Keeps c.put_pending.new.draft.nodes o (tree c.args.root None bare bare)) (sym c.in_ok-put_pending.ensures.puts.root) (keeps_lone c.put_pending.new.draft.nodes c.args.root n)
+    subst (λ (o : Option ℕ). KeepsDraft c.put_pending.new.draft.nodes o (tree c.args.root None bare bare)) (sym c.in_ok-put_pending.ensures.puts.root) (keeps_lone c.put_pending.new.draft.nodes c.args.root n)
 
 pub returns-clause-made : goal.returns-clause-made
 returns-clause-made g c = made_lone c.args.draft.now _ _ c.args.root c.new.ensures c.in_ok-put_pending.ensures.puts c.in_ok-touch_all.ensures.all.made

@@ -3,7 +3,7 @@ use Rattle.std.specs.Prelude.{Option, option_to_list}
 use Rattle.std.proofs.lemmas.Bool.{false≢true}
 use Rattle.std.specs.FinMap as map
 use Rattle.ax_mirror.specs.Placed.{Nodes}
-use Rattle.ax_mirror.specs.Kept.{Keeps}
+use Rattle.ax_mirror.specs.Kept.{KeepsDraft}
 use Rattle.ax_mirror.proofs.Begins.{unseen_begins, unseen_next, all_seen, none_there, longer_with, grows_with}
 use Rattle.ax_mirror.proofs.Accounts.{or_left, only_with}
 use Rattle.ax_mirror.proofs.Reached.{on_err, reach_here, reach_only, reach_only_same}
@@ -28,7 +28,7 @@ loop-round-init c = record {
   grows = λ z h. h;
   longer = omega arith;
   only = λ z h. or_left _ _ h;
-  walk = λ w k. unseen_begins w c.args.draft.now.nodes c.in-Some.root _ _ (subst (λ (o : Option ℕ). Keeps c.args.draft.now.nodes o w) c.in-Some.is k) (c.in_ok-push.ensures.ok ∙ ap (λ (js : List ℕ). js ++ c.in-Some.root ∷ []) c.new-stack.ensures);
+  walk = λ w k. unseen_begins w c.args.draft.now.nodes c.in-Some.root _ _ (subst (λ (o : Option ℕ). KeepsDraft c.args.draft.now.nodes o w) c.in-Some.is k) (c.in_ok-push.ensures.ok ∙ ap (λ (js : List ℕ). js ++ c.in-Some.root ∷ []) c.new-stack.ensures);
 }
 
 pub loop-round-preserved : goal.loop-round-preserved

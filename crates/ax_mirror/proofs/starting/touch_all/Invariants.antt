@@ -4,7 +4,7 @@ use Rattle.std.specs.FinMap as map
 use Rattle.ax_node.specs.Look.{Look}
 use Rattle.ax_trees.specs.Trees.{Trees}
 use Rattle.ax_trees.specs.Lists.{contains}
-use Rattle.ax_mirror.specs.Kept.{Keeps}
+use Rattle.ax_mirror.specs.Kept.{KeepsDraft}
 use Rattle.ax_mirror.proofs.Begins.{Unseen}
 use Rattle.ax_mirror.proofs.starting.touch_all.Given as goal
 
@@ -16,5 +16,5 @@ invariant-loop-round l = record {
   grows : (z : ℕ) → contains l.fn.draft.touched z ≡ true → contains l.draft.touched z ≡ true;
   longer : length l.fn.draft.touched ≤ length l.draft.touched;
   only : (z : ℕ) → contains l.draft.touched z ≡ true → (contains l.fn.draft.touched z || is_some (map.get l.fn.draft.nodes z)) ≡ true;
-  walk : (w : Trees (Option Look)) → Keeps l.fn.draft.nodes l.fn.draft.root w → Unseen w l.fn.draft.nodes l.draft.touched l.stack;
+  walk : (w : Trees (Option Look)) → KeepsDraft l.fn.draft.nodes l.fn.draft.root w → Unseen w l.fn.draft.nodes l.draft.touched l.stack;
 }

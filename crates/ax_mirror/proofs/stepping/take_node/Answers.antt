@@ -12,7 +12,7 @@ use Rattle.ax_tree.specs.UpdateRule.{draft_node}
 use Rattle.ax_tree.specs.Tree.{as_node}
 use Rattle.ax_mirror.specs.declared.entries.Entry.{Entry}
 use Rattle.ax_mirror.specs.Placed.{Nodes, pending_entry}
-use Rattle.ax_mirror.specs.Kept.{Keeps}
+use Rattle.ax_mirror.specs.Kept.{KeepsDraft}
 use Rattle.ax_mirror.specs.Changes.{RepeatsChild}
 use Rattle.ax_mirror.specs.Steps.{is_elsewhere, Places}
 use Rattle.ax_mirror.proofs.Looks.{get_insert, at_other}
@@ -62,7 +62,7 @@ returns-in-Ok-put-clause-ok g c = λ w k.
     record {
       next = with_next w u;
       is = is_accepted m u e c.in-Some.ensures c.args.draft.now.root w k (bag.contains nat_eq c.in-Ok.change.old) c.in-Ok.ensures.ok.old c.take_out.new.draft.nodes out c.in-Ok.ensures.ok.once bad;
-      keeps = subst (λ (r : Option ℕ). Keeps c.put.new.nodes r (with_next w u)) (sym (pl.root ∙ c.in-Ok-take_out.ensures.out.root))
+      keeps = subst (λ (r : Option ℕ). KeepsDraft c.put.new.nodes r (with_next w u)) (sym (pl.root ∙ c.in-Ok-take_out.ensures.out.root))
           (keeps_on m u e c.in-Some.ensures c.args.draft.now.root w k (bag.contains nat_eq c.in-Ok.change.old) c.in-Ok.ensures.ok.old c.take_out.new.draft.nodes out c.in-Ok.ensures.ok.once bad
           c.place.new.draft.nodes c.put.new.nodes to
           (λ z. pl.at z ∙ ap (λ (l : ℕ). cond (contains u.children z && not (bag.contains nat_eq c.in-Ok.change.old z)) (Some (pending_entry (Some u.id) l z)) (map.get c.take_out.new.draft.nodes z)) c.in-Ok.ensures.ok.inner)

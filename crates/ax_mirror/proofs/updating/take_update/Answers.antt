@@ -6,8 +6,8 @@ use Rattle.ax_trees.specs.Trees.{Trees}
 use Rattle.ax_tree.specs.declared.update.TreeUpdate.{TreeUpdate}
 use Rattle.ax_tree.specs.UpdateRule.{draft_of, started, missing}
 use Rattle.ax_mirror.specs.declared.draft.Draft.{Draft}
-use Rattle.ax_mirror.specs.Kept.{Keeps}
-use Rattle.ax_mirror.specs.Steps.{Gives, all_taken}
+use Rattle.ax_mirror.specs.Kept.{KeepsDraft}
+use Rattle.ax_mirror.specs.Steps.{MakesDraft, all_taken}
 use Rattle.ax_mirror.specs.Finishes.{Finished, Unfinished}
 use Rattle.ax_mirror.proofs.Tracks.{costs_then, made_then}
 use Rattle.ax_mirror.proofs.Updates.{settled_of, missing_same, refused_clear, refused_node, refused_end, gives_trees}
@@ -28,7 +28,7 @@ returns-in-Err-take_nodes-clause-err g c = λ f h.
     let u : TreeUpdate = c.args.update.now in
     let mi : missing f u.clear ≡ None = sym (missing_same c.args.draft.now.nodes c.args.draft.now.root f u.clear h) ∙ sym c.in-None.ensures in
     let w : Trees (Option Look) = started u.root u.clear (draft_of f) in
-    let k : Keeps c.start.new.draft.nodes c.start.new.draft.root w = c.in-Ok.ensures.ok (draft_of f) h.keeps in
+    let k : KeepsDraft c.start.new.draft.nodes c.start.new.draft.root w = c.in-Ok.ensures.ok (draft_of f) h.keeps in
     ⊎_elim (λ q. inl q) (λ q. inr (refused_node u f c.in-Err-take_nodes.refusal mi (ap (λ (us : List NodeData). all_taken w us) (sym c.as_slice.ensures) ∙ q))) (c.in-Err-take_nodes.ensures.err w k)
 
 pub returns-in-Ok-finish-clause-ok : goal.returns-in-Ok-finish-clause-ok
@@ -37,8 +37,8 @@ returns-in-Ok-finish-clause-ok g c = λ f h.
     let e : Draft = c.take_nodes.new.draft in
     let mi : missing f u.clear ≡ None = sym (missing_same c.args.draft.now.nodes c.args.draft.now.root f u.clear h) ∙ sym c.in-None.ensures in
     let w : Trees (Option Look) = started u.root u.clear (draft_of f) in
-    let k : Keeps c.start.new.draft.nodes c.start.new.draft.root w = c.in-Ok.ensures.ok (draft_of f) h.keeps in
-    let gives : Gives e (all_taken w u.nodes) = subst (λ (us : List NodeData). Gives e (all_taken w us)) c.as_slice.ensures (c.in-Ok-take_nodes.ensures.ok w k) in
+    let k : KeepsDraft c.start.new.draft.nodes c.start.new.draft.root w = c.in-Ok.ensures.ok (draft_of f) h.keeps in
+    let gives : MakesDraft e (all_taken w u.nodes) = subst (λ (us : List NodeData). MakesDraft e (all_taken w us)) c.as_slice.ensures (c.in-Ok-take_nodes.ensures.ok w k) in
     let fin : Finished e.nodes e.made = subst (λ (js : List ℕ). Finished e.nodes js) c.as_slice-2.ensures c.in-Ok-finish.ensures.ok in
     let d : Draft = cleared_made c.args.draft.now c.clear.new.self in
     gives_trees u f e mi gives fin (settled_of d e f h (made_then d c.start.new.draft e c.in-Ok.ensures.made c.in-Ok-take_nodes.ensures.made))
@@ -49,8 +49,8 @@ returns-in-Err-finish-clause-err g c = λ f h.
     let e : Draft = c.take_nodes.new.draft in
     let mi : missing f u.clear ≡ None = sym (missing_same c.args.draft.now.nodes c.args.draft.now.root f u.clear h) ∙ sym c.in-None.ensures in
     let w : Trees (Option Look) = started u.root u.clear (draft_of f) in
-    let k : Keeps c.start.new.draft.nodes c.start.new.draft.root w = c.in-Ok.ensures.ok (draft_of f) h.keeps in
-    let gives : Gives e (all_taken w u.nodes) = subst (λ (us : List NodeData). Gives e (all_taken w us)) c.as_slice.ensures (c.in-Ok-take_nodes.ensures.ok w k) in
+    let k : KeepsDraft c.start.new.draft.nodes c.start.new.draft.root w = c.in-Ok.ensures.ok (draft_of f) h.keeps in
+    let gives : MakesDraft e (all_taken w u.nodes) = subst (λ (us : List NodeData). MakesDraft e (all_taken w us)) c.as_slice.ensures (c.in-Ok-take_nodes.ensures.ok w k) in
     let fin : Unfinished e.nodes e.made c.in-Err-finish.refusal = subst (λ (js : List ℕ). Unfinished e.nodes js c.in-Err-finish.refusal) c.as_slice-2.ensures c.in-Err-finish.ensures.err in
     let d : Draft = cleared_made c.args.draft.now c.clear.new.self in
     inr (refused_end u f gives.next c.in-Err-finish.refusal mi gives.is (fin e.root gives.next gives.keeps (settled_of d e f h (made_then d c.start.new.draft e c.in-Ok.ensures.made c.in-Ok-take_nodes.ensures.made))))

@@ -1,10 +1,18 @@
 use Rattle.ax_rules.specs.Stitched.{stitched}
-use Rattle.ax_rules.specs.Positions.{range_text}
-use Rattle.ax_position.proofs.Ranged.{first_refused, second_refused}
+use Rattle.ax_rules.specs.Positions.{mark, range_text}
+use Rattle.ax_position.proofs.Asking.{text_told, text_wanted, text_unsaid}
 use Rattle.ax_position.proofs.between.range_text.Goals as goal
 
 pub returns-in-Err : goal.returns-in-Err
-returns-in-Err g c = first_refused (range_text (stitched (g.G.Grove.forest c.args.g.now))) c.in-Err.refusal _ _ c.in-Err.ensures.mark
+returns-in-Err g c = text_unsaid (range_text (stitched (g.G.Grove.forest c.args.g.now))) _ _ c.in-Err.refusal c.in-Err.ensures.marks
 
-pub returns-in-Err-mark_of : goal.returns-in-Err-mark_of
-returns-in-Err-mark_of g c = second_refused (range_text (stitched (g.G.Grove.forest c.args.g.now))) c.in-Err-mark_of.refusal _ _ _ c.in-Ok.ensures.mark c.in-Err-mark_of.ensures.mark
+pub returns-in-Ok-text_of_marks : goal.returns-in-Ok-text_of_marks
+returns-in-Ok-text_of_marks g c =
+    let b = c.in-Ok.both in
+    text_told (range_text (stitched (g.G.Grove.forest c.args.g.now))) _ _ (mark b.one.place b.one.offset b.one.affinity) (mark b.other.place b.other.offset b.other.affinity) c.in-Ok-text_of_marks.text c.in-Ok.ensures.marks
+    c.in-Ok-text_of_marks.ensures
+
+pub returns-in-Err-text_of_marks : goal.returns-in-Err-text_of_marks
+returns-in-Err-text_of_marks g c =
+    let b = c.in-Ok.both in
+    text_wanted (range_text (stitched (g.G.Grove.forest c.args.g.now))) _ _ (mark b.one.place b.one.offset b.one.affinity) (mark b.other.place b.other.offset b.other.affinity) c.in-Ok.ensures.marks

@@ -9,6 +9,6 @@ decreases-walk_node g l = l.levels * 300 + height (below (g.G.Tree.TreeView.tree
 
 abbrev pub invariant-loop-child : goal.invariant-loop-child
 invariant-loop-child g l = record {
-  seen : l.state ≡ folded g.S.Visitor.seen l.initial.state (flat_map (node_rows l.levels (g.G.Grove.forest l.g) l.target l.within l.at.tree (g.G.Tree.TreeView.tree l.view).trees) (take l.child-index l.children));
+  seen : l.state ≡ folded g.S.Visitor.seen l.initial.state (flat_map (node_rows l.levels (g.G.Grove.forest l.g) l.targets l.within l.at.tree (g.G.Tree.TreeView.tree l.view).trees) (take l.child-index l.children));
   fails : g.S.Visitor.fails l.state ≡ g.S.Visitor.fails l.initial.state;
 }

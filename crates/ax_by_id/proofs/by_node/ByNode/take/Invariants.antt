@@ -1,0 +1,4 @@
+use Rattle.ax_by_id.proofs.by_node.ByNode.take.Given as goal
+
+abbrev pub ghosts-take_counted : goal.ghosts-take_counted
+ghosts-take_counted g a = record { name = a.blank.name; parts = a.blank.parts }

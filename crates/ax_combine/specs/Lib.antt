@@ -1,0 +1,4 @@
+pub mod Numbering
+pub mod Runs
+pub mod Joining
+pub mod Kept

@@ -1,4 +1,0 @@
-pub mod Replay
-pub mod Laws
-pub mod Only
-pub mod Sending

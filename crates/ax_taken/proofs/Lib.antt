@@ -1,0 +1,4 @@
+pub mod ReaderLemmas
+pub mod QueryLemmas
+pub mod FrameLemmas
+pub mod HistoryLemmas
