@@ -1,12 +1,15 @@
 #!/usr/bin/env python3
 """Measures what one small thing costs in small and in large trees and forests, from outside the program.
 
+    bench_costs.py passes [--program PATH]
     bench_costs.py receipts [--program PATH]
     bench_costs.py queries [--program PATH]
 
 Each script is run with the things that are measured and without them; what is told is the difference for each of them, in
 microseconds of processor, the least of several runs, so reading and printing the thing is in it. Each node has ten children.
 
+    passes    one node is set and its frame passes; the browser has asked for another token, so each packet is stale and
+              its receipt does nothing. The tree has 1,000 or 100,000 nodes.
     receipts  one node is set, or 1,000 are, their frame passes, and the browser receives. The changed tree has 1,000 or
               100,000 nodes, the forest that tree alone or 999 more with one node each.
     queries   one reader asks the same again and again, of the last node and of the first, in a tree of 1,000 or 100,000 nodes
@@ -22,6 +25,7 @@ from pathlib import Path
 
 TOOL = Path(__file__).resolve().parent.parent / "crates/ax_tool/out/ax_tool"
 SIZES = (1_000, 100_000)
+CHEAP = ("next of the last node", "bounds of the last node", "leaf of a position in the root")
 
 
 def tree(nodes, names):
@@ -33,20 +37,30 @@ def tree(nodes, names):
     yield '{"op":"pass"}'
 
 
-def script(frames, order, readers=()):
+def script(frames, order, readers=(), browser=""):
     listed = ",\n".join(f'{{"tree":{t},"ops":[{",".join(ops)}]}}' for t, ops in frames)
     asked = ",".join("[" + ",".join(queries) + "]" for queries in readers)
-    return f'{{"version":2,"frames":[{listed}],"readers":[{asked}],"order":"{" ".join(order)}"}}'
+    return f'{{"version":2,"frames":[{listed}],"browser":[{browser}],"readers":[{asked}],"order":"{" ".join(order)}"}}'
 
 
-def of_receipts(nodes, trees, touched, count):
-    changes = []
+def changes_of(nodes, touched, count):
     for i in range(count):
         for k in range(touched):
             node = (i * 37 + k * (nodes // touched)) % nodes + 1
             role = ("link", "button")[(i if touched > 1 else i * 37 // nodes) % 2]
-            changes.append(f'{{"op":"set","node":{node},"role":"{role}"}}')
-        changes.append('{"op":"pass"}')
+            yield f'{{"op":"set","node":{node},"role":"{role}"}}'
+        yield '{"op":"pass"}'
+
+
+def of_passes(nodes, count):
+    """There is always one packet that is stale, so each run ends with one refreshment."""
+    first, changes = list(tree(nodes, False)), list(changes_of(nodes, 1, count + 1))
+    order = ["f1"] * len(first) + ["a1", "b"] + ["f1"] * len(changes)
+    return script([(1, first + changes)], order, browser='{"op":"ask","tree":1}')
+
+
+def of_receipts(nodes, trees, touched, count):
+    changes = list(changes_of(nodes, touched, count))
     first = list(tree(nodes, False))
     frames = [(1, first + changes)] + [(t, ['{"op":"root","node":1}', '{"op":"pass"}']) for t in range(2, trees + 1)]
     order = [f"f{t}" for t, ops in frames for _ in range(len(first) if t == 1 else 2)]
@@ -102,6 +116,12 @@ def each(given, made, count):
     return (seconds(given.program, many, given.runs) - seconds(given.program, few, given.runs)) / count * 1e6
 
 
+def tell_passes(given):
+    for nodes in SIZES:
+        took = each(given, lambda count: of_passes(nodes, count), given.count)
+        print(f"{nodes} nodes: {took:.2f} us for a set, a pass and a stale receipt", flush=True)
+
+
 def tell_receipts(given):
     for touched in (1, 1_000):
         for trees in (1, 1_000):
@@ -113,19 +133,19 @@ def tell_receipts(given):
 def tell_queries(given):
     for nodes in SIZES:
         for name, query in questions(nodes).items():
-            count = max(20, given.count * 20 // nodes) if nodes > 1_000 else given.count // 10
+            count = given.count if name in CHEAP else max(50, given.count * 100 // nodes)
             took = each(given, lambda n: of_queries(nodes, query, n), count)
             print(f"{nodes} nodes: {name}: {took:.2f} us", flush=True)
 
 
 def main():
     parser = argparse.ArgumentParser(description=__doc__.splitlines()[0])
-    parser.add_argument("what", choices=("receipts", "queries"))
+    parser.add_argument("what", choices=("passes", "receipts", "queries"))
     parser.add_argument("--program", default=str(TOOL))
     parser.add_argument("--count", type=int, default=50_000)
     parser.add_argument("--runs", type=int, default=3)
     given = parser.parse_args()
-    {"receipts": tell_receipts, "queries": tell_queries}[given.what](given)
+    {"passes": tell_passes, "receipts": tell_receipts, "queries": tell_queries}[given.what](given)
 
 
 if __name__ == "__main__":
