@@ -140,7 +140,7 @@ class Conversion:
                 states.add("invisible")
             if element.attributes.get("type") == "password" and element.name == "INPUT":
                 states.add("protected")
-            if element.box and self.page.is_off(self.shot.frame, element):
+            if self.page.is_off(self.shot.frame, element):
                 states.add("offscreen")
         return states
 

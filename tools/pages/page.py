@@ -6,6 +6,7 @@ from pathlib import Path
 from .words import count
 
 ASSETS = Path(__file__).parent / "assets"
+EVENT_LANE = "e"
 
 
 def node_members(node):
@@ -44,9 +45,10 @@ def step_members(step):
 
 
 def lanes(story):
-    """The lanes of the time line in which something stands, each with its name."""
-    used = {step.lane for step in story.steps}
+    """The lanes of the time line in which something stands, each with its name. Events are counted in one of their own."""
+    used = {step.lane for step in story.steps} | {EVENT_LANE for step in story.steps if step.events}
     named = [(lane, name) for tree in story.order for lane, name in ((f"f{tree}", f"Frame {tree}"), (f"a{tree}", f"Copy of {tree}"))]
+    named.append((EVENT_LANE, "Events"))
     named += [(f"r{reader}", f"Reader {reader}") for reader in range(1, len(story.queries) + 1)]
     return [[lane, name] for lane, name in named if lane in used]
 

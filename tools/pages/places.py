@@ -69,13 +69,15 @@ class Page:
 
     def exact(self, frame, element):
         """An element's box in the window, with fractions."""
+        if element.box_in_window:
+            return element.box_in_window
         x, y = self.origin(frame)
         left, top, right, bottom = element.box
         return (left + x, top + y, right + x, bottom + y)
 
     def box(self, frame, element):
         """An element's box in the window, in whole numbers, or None."""
-        if element is None or element.box is None:
+        if element is None or element.box is None and element.box_in_window is None:
             return None
         return enclosing(*self.exact(frame, element))
 
@@ -84,7 +86,9 @@ class Page:
         return enclosing(*self.owner_box(frame)) if self.shots[frame].parent else (0, 0, *self.size)
 
     def is_off(self, frame, element):
-        """Whether an element lies outside what its frame shows of it."""
+        """Whether an element with a box lies outside what its frame shows of it."""
+        if self.box(frame, element) is None:
+            return False
         left, top, right, bottom = self.exact(frame, element)
         window = self.window(frame)
         return window is not None and (right <= window[0] or bottom <= window[1] or left >= window[2] or top >= window[3])
@@ -100,18 +104,13 @@ class Page:
         larger = element.scroll[2] > element.client[2] or element.scroll[3] > element.client[3]
         return (round(element.scroll[0]), round(element.scroll[1])) if larger or any(element.scroll[:2]) else None
 
-    def has_focus(self, frame):
-        """Whether the frame is the window's, or the active element of one that has the focus."""
-        shot = self.shots[frame]
-        return not shot.parent or (self.shots[shot.parent].active == shot.owner and self.has_focus(shot.parent))
-
     def focus(self, shot, root, known_id):
         """The id of the focus in a frame that has it: the active element, or the root."""
-        if not self.has_focus(shot.frame):
+        if not shot.has_focus:
             return 0
         return known_id(shot.active) or root
 
     def focused_tree(self):
-        """The number of the innermost tree that has the focus."""
-        holders = [frame for frame in self.shots if self.has_focus(frame)]
-        return self.trees[holders[-1]]
+        """The number of the innermost tree that has the focus, or 0."""
+        holders = [frame for frame, shot in self.shots.items() if shot.has_focus]
+        return self.trees[holders[-1]] if holders else 0

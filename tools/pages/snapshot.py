@@ -5,7 +5,7 @@ from .chromium import BrowserError
 
 STYLES = ["overflow-x", "overflow-y", "position", "visibility", "padding-left", "padding-top", "padding-right", "padding-bottom", "transform"]
 SELECTION = """(() => {
-  const active = document.activeElement, chosen = getSelection();
+  const named = document.activeElement, active = named === document.body && !named.matches(':focus') ? null : named, chosen = getSelection();
   const control = active && typeof active.selectionStart === 'number';
   return control ? {nodes: [active, active], offsets: [active.selectionStart, active.selectionEnd], text: active.value, active}
     : {nodes: [chosen.anchorNode, chosen.focusNode], offsets: [chosen.anchorOffset, chosen.focusOffset], active};
@@ -19,10 +19,14 @@ OFFSET = """function() {
 
 @dataclass
 class Element:
-    """What a snapshot of the document tells of a node: attributes, box in the document, styles, and how far it is scrolled."""
+    """What a snapshot of the document tells of a node: attributes, box in the document, styles, and how far it is scrolled.
+
+    Of what the browser itself puts into a control no snapshot tells: there the box is that in the window.
+    """
     name: str = ""
     attributes: dict = field(default_factory=dict)
     box: tuple = None
+    box_in_window: tuple = None
     styles: dict = field(default_factory=dict)
     scroll: tuple = None
     client: tuple = None
@@ -41,6 +45,7 @@ class FrameShot:
     scroll: tuple = (0, 0)
     content: tuple = (0, 0)
     loaded: bool = False
+    has_focus: bool = False
     active: int = 0
     selection: tuple = ()
 
@@ -114,9 +119,30 @@ def add_state(browser, shot):
     if shot.parent:
         shot.owner = browser.call("DOM.getFrameOwner", frameId=shot.frame)["backendNodeId"]
     shot.nodes = browser.call("Accessibility.getFullAXTree", frameId=shot.frame)["nodes"]
+    add_inner_boxes(browser, shot)
     world = browser.call("Page.createIsolatedWorld", frameId=shot.frame)["executionContextId"]
     shot.loaded = evaluate_in(browser, world, "document.readyState").get("value") == "complete"
+    shot.has_focus = evaluate_in(browser, world, "document.hasFocus()").get("value")
     add_selection(browser, shot, evaluate_in(browser, world, SELECTION, handle=True))
+
+
+def add_inner_boxes(browser, shot):
+    """Adds the boxes of accessible nodes that the snapshot hasn't, such as the text inside a field."""
+    for node in shot.nodes:
+        number = node.get("backendDOMNodeId")
+        if number is not None and number not in shot.elements:
+            shot.elements[number] = Element(box_in_window=quads_box(browser, number))
+
+
+def quads_box(browser, number):
+    """The box in the window around a node, or None where it has none."""
+    try:
+        quads = browser.call("DOM.getContentQuads", backendNodeId=number)["quads"]
+    except BrowserError:
+        return None
+    across = [corner for quad in quads for corner in quad[0::2]]
+    down = [corner for quad in quads for corner in quad[1::2]]
+    return (min(across), min(down), max(across), max(down)) if quads else None
 
 
 def evaluate_in(browser, world, expression, handle=False):

@@ -57,7 +57,8 @@ class Captured(unittest.TestCase):
         cls.alone = capture(cls.folder.name, "alone", "--no-order")
         cls.first = capture(cls.folder.name, "first", "--no-order", "--version", "1")
         cls.left = capture(cls.folder.name, "left", "--no-order", "--step", "click a", "--step", "wait 300", "--step", "key Tab", steps=(), page="card")
-        cls.all = (cls.whole, cls.alone, cls.first, cls.left)
+        cls.nested = capture(cls.folder.name, "nested", "--queries", steps=("desk",), page="desk")
+        cls.all = (cls.whole, cls.alone, cls.first, cls.left, cls.nested)
 
     def test_the_operations_give_the_browsers_tree(self):
         for script, final, _ in self.all:
@@ -105,6 +106,18 @@ class Captured(unittest.TestCase):
         x, y, width, height = extents(run_by_hand(read_json(self.whole[0]))[1])[host["id"]]
         self.assertEqual(trees[2]["root"]["rect"], [x + 8, y + 8, width - 16, height - 16], "a border of 3 and a padding of 5 pixels")
         self.assertEqual(trees[2]["data"]["parent"], 1)
+
+    def test_frames_inside_frames(self):
+        script, trees = read_json(self.nested[0]), read_json(self.nested[1])["trees"]
+        self.assertEqual([tree.get("gone", False) for tree in trees], [False, True, True])
+        told = {frame["tree"]: [op for op in frame["ops"] if op["op"] == "data"] for frame in script["frames"]}
+        self.assertEqual([told[number][0].get("parent", 0) for number in (1, 2, 3)], [0, 1, 2])
+        self.assertEqual([op["focused"] for op in told[1] if "focused" in op], [1, 3, 2, 0], "the focus goes with the frame in which it was")
+        self.assertEqual(trees[0]["data"]["focus"], 0)
+
+    def test_what_is_inside_a_field_has_a_box(self):
+        text = next(node for node in every(read_json(self.whole[1])["trees"][0]["root"]) if node["name"] == "Ana é🍐")
+        self.assertGreater(min(text["rect"][2:]), 10)
 
     def test_texts_states_and_values(self):
         nodes = {node["name"]: node for node in reversed(list(every(read_json(self.whole[1])["trees"][0]["root"])))}

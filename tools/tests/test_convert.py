@@ -101,11 +101,15 @@ class Looks(unittest.TestCase):
 
     def test_selection_and_focus(self):
         root = node(9, "RootWebArea", node(8, "StaticText", name="abc"), node(7, "textbox"))
-        tree, _ = convert(root, selection=((8, 1), (7, 0)), active=7, title="T", url="u", loaded=True)
+        tree, _ = convert(root, selection=((8, 1), (7, 0)), active=7, has_focus=True, title="T", url="u", loaded=True)
         self.assertEqual(tree.data, {"parent": 0, "focused": 1, "loaded": True, "focus": 3, "sel": [2, 1, 3, 0], "title": "T", "url": "u"})
-        tree, notes = convert(node(9, "RootWebArea"), selection=((5, 1), (9, 0)), active=5)
+        tree, notes = convert(node(9, "RootWebArea"), selection=((5, 1), (9, 0)), active=5, has_focus=True)
         self.assertEqual((tree.data["sel"], tree.data["focus"]), ([0, 0, 0, 0], 1))
         self.assertEqual(notes, ["a selection that ends at no accessible node (1, first tree 1)"])
+
+    def test_a_window_without_focus(self):
+        tree, _ = convert(node(9, "RootWebArea", node(8, "textbox")), active=8)
+        self.assertEqual((tree.data["focus"], tree.data["focused"]), (0, 0))
 
 
 class Boxes(unittest.TestCase):
@@ -126,6 +130,12 @@ class Boxes(unittest.TestCase):
         self.assertEqual([tree.nodes[number].rect for number in (1, 2, 3)], [(0, 0, 100, 80), (5, 20, 50, 20), (0, 10, 21, 5)])
         self.assertEqual([tree.nodes[number].get("container") for number in (3, 4, 5, 6)], [2, None, None, 1])
         self.assertIn("offscreen", tree.nodes[6].states)
+
+    def test_a_box_that_only_the_window_has(self):
+        inner = Element(box_in_window=(10, 30, 40, 44.5))
+        for version, rect in ((1, (10, 30, 30, 15)), (2, (10, 40, 30, 15))):
+            tree, _ = convert(node(9, "RootWebArea", node(8, "StaticText")), {8: inner}, version, scroll=(0, 10), content=(100, 400))
+            self.assertEqual((tree.nodes[2].rect, tree.nodes[2].states), (rect, frozenset()))
 
     def test_turned_boxes(self):
         turned, moved = box(1, 1, 9, 9, styles={"transform": "matrix(0, 1, -1, 0, 0, 0)"}), box(1, 1, 9, 9, styles={"transform": "matrix(1, 0, 0, 1, 5, 5)"})

@@ -33,6 +33,26 @@ CLICKED = """(() => {
   canvas.dispatchEvent(new MouseEvent('click', {clientX: box.left + 600 * drawn.scale, clientY: box.top + 120 * drawn.scale}));
 })()"""
 
+MARKED_COUNTS = """[...document.querySelectorAll('#line > [aria-hidden]')].map(mark => [Number(mark.style.gridColumnStart), Number(mark.textContent)])"""
+MISNAMED = """(() => {
+  const all = selector => [...document.querySelectorAll(selector)], faults = [], ids = all('[id]').map(one => one.id);
+  if (new Set(ids).size < ids.length) faults.push('an id stands twice');
+  for (const name of ['aria-labelledby', 'aria-describedby', 'aria-activedescendant', 'for']) {
+    const named = all(`[${name}]`).flatMap(one => one.getAttribute(name).split(' '));
+    faults.push(...named.filter(id => !document.getElementById(id)).map(id => `${name} names ${id}`));
+  }
+  all('h1, h2, h3').map(one => Number(one.tagName[1])).reduce((above, level) => {
+    if (level > above + 1) faults.push(`a heading of level ${level} below one of ${above}`);
+    return level;
+  }, 0);
+  for (const one of all('button, [role=option]')) {
+    const box = one.getBoundingClientRect();
+    if (Math.min(box.width, box.height) < 24 && !one.classList.contains('all')) faults.push(`${one.id || one.textContent} is small`);
+  }
+  return faults;
+})()"""
+FOCUS_MARK = "(style => [style.outlineStyle, parseFloat(style.outlineWidth)])(getComputedStyle(document.activeElement))"
+
 
 def to_step(test):
     """JavaScript that shows the first step of which a test holds."""
@@ -190,6 +210,27 @@ class View(unittest.TestCase):
         self.assertEqual(seen["listbox"], ["Time line"])
         self.assertIn("Boxes", seen.get("image", []) + seen.get("img", []))
         self.assertEqual(self.browser.evaluate("document.documentElement.lang"), "en")
+
+    def test_events_are_counted_in_the_time_line(self):
+        self.open("two-frames")
+        told = self.browser.evaluate("story.steps.flatMap((step, at) => step.events ? [[at + 1, step.events.length]] : [])")
+        self.assertEqual(self.browser.evaluate(MARKED_COUNTS), told)
+        self.assertEqual(sum(count for _, count in told), 20)
+        self.assertIn("Events", self.text("#lanes"))
+
+    def test_names_headings_and_sizes(self):
+        for page in ("two-frames", "actions", "index"):
+            self.open(page)
+            self.assertEqual(self.browser.evaluate(MISNAMED), [])
+
+    def test_the_focus_is_seen(self):
+        self.open("two-frames")
+        self.browser.evaluate("document.activeElement.blur()")
+        for _ in range(30):
+            self.press("Tab")
+            if self.browser.evaluate("document.activeElement !== document.body"):
+                style, width = self.browser.evaluate(FOCUS_MARK)
+                self.assertTrue(style != "none" and width >= 2, self.browser.evaluate("document.activeElement.outerHTML.slice(0, 80)"))
 
     def test_a_narrow_window(self):
         self.open("two-frames")

@@ -18,7 +18,7 @@ module _ {X : Type 0} where
   unlisted_in bare cs z h = h
   unlisted_in (tree i x k r) cs z h = grind (arith, h, unlisted_in r cs z)
 
-  unlisted_only : (k : Trees X) (cs : List ℕ) (z : ℕ) → IsDistinct k → has (unlisted k cs) z ≡ true → has (only k cs) z ≡ false
+  pub unlisted_only : (k : Trees X) (cs : List ℕ) (z : ℕ) → IsDistinct k → has (unlisted k cs) z ≡ true → has (only k cs) z ≡ false
   unlisted_only bare cs z d h = refl
   unlisted_only (tree i x k r) cs z d h =
       grind (arith, h, eqb_tells i z, d.0, d.1, d.2.apart z, unlisted_in r cs z, only_in r cs z, unlisted_only r cs z d.4)
@@ -74,7 +74,7 @@ module _ {X : Type 0} where
       let c' : contains all c ≡ true = h c (grind (arith, eqb_tells c c)) in
       rw (root_known_only f k all c c', root_below_only k all c c', arranged_only f cs all k (λ z t. h z (grind (arith, t)))) refl
 
-  distinct_only : (k : Trees X) (cs : List ℕ) → IsDistinct k → IsDistinct (only k cs)
+  pub distinct_only : (k : Trees X) (cs : List ℕ) → IsDistinct k → IsDistinct (only k cs)
   distinct_only bare cs d = tt
   distinct_only (tree i e k r) cs d =
       by_go (contains cs i)
@@ -87,7 +87,7 @@ module _ {X : Type 0} where
       ))
       (λ q. rw q (distinct_only r cs d.4))
 
-  root_of_only : (k : Trees X) (cs : List ℕ) (z : ℕ) → contains cs z ≡ true → has_root k z ≡ true → has_root (only k cs) z ≡ true
+  pub root_of_only : (k : Trees X) (cs : List ℕ) (z : ℕ) → contains cs z ≡ true → has_root k z ≡ true → has_root (only k cs) z ≡ true
   root_of_only bare cs z c h = h
   root_of_only (tree i e k r) cs z c h =
       by_go (eqb i z)

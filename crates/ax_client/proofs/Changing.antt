@@ -3,7 +3,7 @@ use Rattle.std.proofs.Common.{ℕ, ◌≡◌, Bool, true, false, cond, not, ◌&
 use Rattle.std.specs.Prelude.{option_map}
 use Rattle.std.proofs.lemmas.Bool.{eqb-true, false_from_ne_true, false≢true}
 use Rattle.std.proofs.lemmas.Bool.Decides.{eqb_tells}
-use Rattle.ax_trees.specs.Trees.{bare, tree, has, has_root, IsDistinct}
+use Rattle.ax_trees.specs.Trees.{bare, tree, has, has_root, roots, IsDistinct}
 use Rattle.ax_trees.specs.Nodes.{Node, node_at, below, children, parent}
 use Rattle.ax_trees.specs.Changes.{with_node}
 use Rattle.ax_trees.specs.Lists.{contains}
@@ -19,7 +19,7 @@ use Rattle.ax_tree.specs.NodeSteps.{stepped}
 use Rattle.ax_tree.proofs.NodeSteps.{stands_step, roots-arranged, only_root}
 use Rattle.ax_client.specs.declared.held.Held.{Held}
 use Rattle.ax_client.specs.Known.{entry_of}
-use Rattle.ax_client.specs.Steps.{Splits, is_tied, tied, untied, unlisted, with_list, list_of}
+use Rattle.ax_client.specs.Steps.{StandUnder, is_tied, is_under, tied, untied, unlisted, with_list, list_of}
 use Rattle.ax_client.proofs.Taking.{Map}
 use Rattle.ax_client.proofs.Arranging.{unlisted_below, kept_is, kept_there}
 
@@ -58,14 +58,13 @@ pub record Changed (f : Client) (y : ℕ) (cs : List ℕ) (m0 m1 m2 m3 m4 m5 : M
   pub filled_else : (z : ℕ) → eqb y z ≡ false → m5 z ≡ m4 z
 
 module _ (f : Client) (y : ℕ) (cs : List ℕ) (d : IsDistinct f) (h : has f y ≡ true) where
-  -- the child lists below y as the loosened entries have them
-  pub splits : (m0 m1 m2 : Map) (old : List ℕ) → ((z : ℕ) → m0 z ≡ entry_at f z) → ((z : ℕ) → eqb y z ≡ false → m1 z ≡ m0 z)
-      → ((z : ℕ) → m2 z ≡ cond (contains cs z) (option_map (untied y) (m1 z)) (m1 z)) → old ≡ list_of [] (m0 y) → Splits m2 y (below f y) cs old
-  splits m0 m1 m2 old first else loose o = record {
+  -- the children of y stand under it, and the entries have their child lists
+  pub stand : (m0 m1 : Map) (old : List ℕ) → ((z : ℕ) → m0 z ≡ entry_at f z) → ((z : ℕ) → eqb y z ≡ false → m1 z ≡ m0 z) → old ≡ list_of [] (m0 y) → StandUnder m1 y (below f y) old
+  stand m0 m1 old first else o = record {
     tops = sym (o ∙ ap (list_of []) (first y ∙ entry_there f y h));
     distinct = distinct_below f y d;
-    lists = record { at = λ z g. listed z g (contains cs z) refl };
-    tie = λ z g. ties z g (contains cs z) refl;
+    lists = record { at = λ z g. ap (option_map (λ (e : Held). e.children)) (entry z g) ∙ ap (λ js. Some js) (same_list z g) };
+    tie = λ z g. ap (is_tied y) (entry z (root_in (below f y) z g)) ∙ ap (is_under y) (parent_of_child f y z d g) ∙ self_under y;
   }
     where
       other : (z : ℕ) → has (below f y) z ≡ true → eqb y z ≡ false
@@ -76,20 +75,6 @@ module _ (f : Client) (y : ℕ) (cs : List ℕ) (d : IsDistinct f) (h : has f y 
 
       same_list : (z : ℕ) → has (below f y) z ≡ true → children f z ≡ children (below f y) z
       same_list z g = node_children f z ∙ ap listed_children (sym (node_below f y z d g)) ∙ sym (node_children (below f y) z)
-
-      listed : (z : ℕ) → has (below f y) z ≡ true → (b : Bool) → contains cs z ≡ b → option_map (λ (e : Held). e.children) (m2 z) ≡ Some (children (below f y) z)
-      listed z g true q = rw (loose z, q, entry z g) (ap (λ js. Some js) (same_list z g))
-      listed z g false q = rw (loose z, q, entry z g) (ap (λ js. Some js) (same_list z g))
-
-      ties : (z : ℕ) → has_root (below f y) z ≡ true → (b : Bool) → contains cs z ≡ b → is_tied y (m2 z) ≡ not b
-      ties z g true q =
-          let e = entry z (root_in (below f y) z g) in
-          let p : parent f z ≡ Some y = parent_of_child f y z d g in
-          rw (loose z, q, e, p, self_under y) refl
-      ties z g false q =
-          let e = entry z (root_in (below f y) z g) in
-          let p : parent f z ≡ Some y = parent_of_child f y z d g in
-          rw (loose z, q, e, p) (self_under y)
 
   abbrev new : Client
   new = with_node f y tt (arranged tt cs (below f y))
@@ -244,3 +229,19 @@ module _ (f : Client) (y : ℕ) (cs : List ℕ) (d : IsDistinct f) (h : has f y 
       changed_at z = by_go (eqb y z)
           (λ q. subst (λ v. m5 v ≡ entry_at new v) (eqb-true y z q) at_self)
           (λ q. s.filled_else z q ∙ at_other z q)
+
+-- ---- child lists
+
+pub listed_is : (f : Client) (z : ℕ) (e : Held) (o : Option Held) → Some e ≡ o → o ≡ entry_at f z → e.children ≡ children f z
+listed_is f z e o h k = by_go (has f z)
+    (λ q. let s : ◌≡◌ {A = Option (List ℕ)} (Some e.children) (Some (children f z)) = ap (option_map (λ (x : Held). x.children)) (h ∙ k ∙ entry_there f z q) in cc)
+    (λ q. absurd (let no : ◌≡◌ {A = Option Held} (Some e) None = h ∙ k ∙ entry_none f z q in cc))
+
+below_absent : (f : Client) (z : ℕ) → has f z ≡ false → below f z ≡ bare
+below_absent bare z h = refl
+below_absent (tree i x k r) z h = grind (arith, h, below_absent k z, below_absent r z)
+
+pub none_listed : (f : Client) (z : ℕ) (o : Option Held) → None ≡ o → o ≡ entry_at f z → [] ≡ children f z
+none_listed f z o h k = by_go (has f z)
+    (λ q. absurd (let no : ◌≡◌ {A = Option Held} None (Some (record { above = parent f z; children = children f z })) = h ∙ k ∙ entry_there f z q in cc))
+    (λ q. ap roots (sym (below_absent f z q)))

@@ -1,12 +1,12 @@
 //! The client tree and its calls.
 ghost use Rattle.std.specs.Prelude.{◌≡◌, ◌≤◌, ◌+◌, [], false, None, Some, length, if◌then◌else◌, IfOk, IsTrue, OnErr, OnOk};
 ghost use Rattle.ax_trees.specs.Trees.{bare, tree, has, root_of, IsTree};
-ghost use Rattle.ax_trees.specs.Nodes.{below, chain, parent};
+ghost use Rattle.ax_trees.specs.Nodes.{below, chain, children, parent};
 ghost use Rattle.ax_trees.specs.Changes.{with_node};
 ghost use Rattle.ax_trees.specs.Lists.{first_that};
 ghost use Rattle.ax_tree.specs.UpdateRule.{arranged, bad_child, first_repeated};
 
-use crate::children::{swap_children, take_tied, tie, untie};
+use crate::children::{exchange, swap_children};
 use crate::held::Held;
 use ax_base::{Ids, NoMemory, NodeId};
 use std::alloc::Global;
@@ -72,6 +72,16 @@ impl ClientTree {
         }
     }
 
+    /// The children of an id, in order; none where it isn't held.
+    pub fn children(&self, id: NodeId) -> &[NodeId]
+        ensures { result.now ≡ children self.now.tree id }
+    {
+        match self.held.get(&id) {
+            Some(entry) => entry.children.as_slice(),
+            None => &[],
+        }
+    }
+
     /// The ids from the root to an id; `None` where it isn't held. Costs the depth.
     pub fn chain(&self, id: NodeId) -> Result<Option<Ids>, NoMemory>
         ensures { IfOk result (λ o. o ≡ (if has self.now.tree id then Some (chain self.now.tree id) else None)) }
@@ -132,8 +142,8 @@ impl ClientTree {
     }
 
     /// Gives an id these children. Those that aren't listed any more go with all below them, and those that are new come as
-    /// leaves. No id may repeat, and each must be a child already, or not be held, or stand below a child that goes. Linear
-    /// in both lists and in what goes.
+    /// leaves. No id may repeat, and each must be a child already, or not be held, or stand below a child that goes. Compares
+    /// the two lists, looks up those ids that the lists don't have in the same order, and costs what goes.
     pub fn set_children(&mut self, id: NodeId, children: Ids)
         requires there { IsTrue (has self.old.tree id) }
         requires once { first_repeated [] children ≡ None }
@@ -143,9 +153,13 @@ impl ClientTree {
         ensures room { self.old.spare ≤ self.new.spare + length children }
     {
         let old = swap_children(&mut self.held, id, Ids::new(self.alloc));
-        untie(&mut self.held, id, children.as_slice());
-        take_tied(&mut self.held, id, old.as_slice());
-        tie(&mut self.held, self.alloc, id, children.as_slice());
+        exchange(
+            &mut self.held,
+            self.alloc,
+            id,
+            old.as_slice(),
+            children.as_slice(),
+        );
         let _ = swap_children(&mut self.held, id, children);
     }
 

@@ -4,5 +4,7 @@
 mod children;
 mod client_tree;
 mod held;
+mod parting;
 
 pub use client_tree::ClientTree;
+pub use parting::place_near;

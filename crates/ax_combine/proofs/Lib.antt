@@ -9,3 +9,4 @@ mod Filtered
 mod AttributeLemmas
 mod Maps
 mod Made
+pub mod Printed

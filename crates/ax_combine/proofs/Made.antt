@@ -23,7 +23,7 @@ use Rattle.ax_stitch.proofs.Under.{placed}
 use Rattle.ax_place_laws.specs.Lists.{EachOf, NoPlaceTwice}
 use Rattle.ax_place_laws.proofs.Starts.{list_once}
 use Rattle.ax_combine.specs.declared.nodes.Row.{Row}
-use Rattle.ax_combine.specs.Numbering.{place_of_number}
+use Rattle.ax_report.specs.Combining.{place_of_number}
 use Rattle.ax_combine.specs.Kept.{row_of}
 use Rattle.ax_combine.proofs.Rows.{got_there, places_length}
 

@@ -26,7 +26,7 @@ use Rattle.ax_stitch.proofs.Sound.{sound_tree}
 use Rattle.ax_place_laws.proofs.Joined.{is_in, IsOnce, kids_at}
 use Rattle.ax_place_laws.proofs.Once.{once}
 use Rattle.ax_place_laws.proofs.Before.{kids_of}
-use Rattle.ax_combine.specs.Numbering.{place_of_number}
+use Rattle.ax_report.specs.Combining.{place_of_number}
 use Rattle.ax_combine.proofs.Positions.{number_behind}
 use Rattle.ax_combine.proofs.Numbered.{AllFrom, Fact, Numbered, numbered_from, count_numbered, inside, outside, numbers_differ, one_root, length_placed, facts}
 use Rattle.ax_combine.proofs.Kids.{numbered_kids}

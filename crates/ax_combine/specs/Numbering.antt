@@ -1,5 +1,5 @@
--- Places by their numbers, and maps from places to numbers.
-use Rattle.std.specs.Prelude.{ℕ, zero, suc, ◌≡◌, ◌<◌, List, Option, Some, None, slice_get, refl}
+-- Places as they are stored, and maps from places to numbers.
+use Rattle.std.specs.Prelude.{ℕ, ◌≡◌, ◌<◌, List, Option, Some, None, refl}
 use Rattle.std.specs.Ordering.{nat_cmp}
 use Rattle.std.specs.FinMap.Entries.{put}
 use Rattle.std.specs.Coded.{Coded, code_by, coded×, coded_ℕ}
@@ -11,11 +11,6 @@ use Rattle.ax_rules.specs.Combined.{number_of}
 -- a place is stored as the pair of its ids
 abbrev pub coded_place : Coded Place
 coded_place = code_by (ℕ × ℕ) (coded× coded_ℕ coded_ℕ) (λ p. (p.tree, p.node)) (λ c. record { tree = c.0; node = c.1 }) (λ _. refl)
-
--- the place of a number, from 1
-abbrev pub place_of_number : List Place → ℕ → Option Place
-place_of_number ps zero = None
-place_of_number ps (suc k) = slice_get ps k
 
 -- the map has the number of each place of the list, and nothing at another place
 pub record AreNumbers (m : ℕ → Option ℕ) (ps : List Place) : Type 0 where

@@ -4,7 +4,7 @@ ghost use Rattle.std.specs.List.{filter_map};
 ghost use Rattle.ax_rules.specs.Combined.{number_of};
 ghost use Rattle.ax_rules.specs.Stitched.{stitched, places};
 ghost use Rattle.ax_trees.specs.Trees.{ids};
-ghost use Rattle.ax_combine.specs.Numbering.{place_of_number};
+ghost use Rattle.ax_report.specs.Combining.{place_of_number};
 ghost use Rattle.ax_combine.specs.Joining.{IsCombined};
 
 use crate::about::data_of;
@@ -13,6 +13,7 @@ use crate::numbering::{Numbering, number_at};
 use crate::walk::all_places;
 use ax_base::{NoMemory, NodeId, Place};
 use ax_node::{NodeData, TreeData};
+use ax_report::CombinedView;
 use ax_tree::{Grove, TreeView};
 use std::alloc::Global;
 use std::marker::Model;
@@ -88,6 +89,18 @@ impl TreeView for Combined {
 
     fn count(&self) -> usize {
         self.rows.len()
+    }
+}
+
+impl CombinedView for Combined {
+    ghost places = { λ c. c.places };
+
+    fn place_count(&self) -> usize {
+        self.numbering.len()
+    }
+
+    fn place(&self, id: NodeId) -> Option<Place> {
+        self.numbering.place(id)
     }
 }
 

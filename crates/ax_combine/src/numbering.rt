@@ -3,7 +3,8 @@ ghost use Rattle.std.specs.Prelude.{◌≡◌, ℕ, ◌<◌, ◌+◌, ◌^◌, S
 ghost use Rattle.std.specs.HashMap.{get};
 ghost use Rattle.ax_rules.specs.StitchedTree.{place_number};
 ghost use Rattle.ax_rules.specs.Combined.{number_of};
-ghost use Rattle.ax_combine.specs.Numbering.{AreNumbers, place_of_number};
+ghost use Rattle.ax_report.specs.Combining.{place_of_number};
+ghost use Rattle.ax_combine.specs.Numbering.{AreNumbers};
 
 use ax_base::{NoMemory, NodeId, Place, Places};
 use std::alloc::Global;

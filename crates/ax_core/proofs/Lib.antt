@@ -10,6 +10,7 @@ pub mod Forests
 pub mod Whole
 pub mod Moving
 pub mod Working
+pub mod Hearing
 pub mod Turning
 pub mod Telling
 pub mod Ruled

@@ -1,5 +1,5 @@
 -- The calls of a refreshment, and those of an operation of the browser, joined.
-use Rattle.std.proofs.Common.{ℕ, zero, suc, ◌≡◌, ◌<◌, inl, inr, Bool, true, false, List, [], ◌∷◌, ◌++◌, length, map, slice_get, sym, ap, ◌∙◌, subst, Option, Some}
+use Rattle.std.proofs.Common.{ℕ, zero, suc, ◌≡◌, ◌<◌, inl, inr, Bool, true, false, List, [], ◌∷◌, ◌++◌, length, map, slice_get, sym, ap, ◌∙◌, subst, arith, Option, Some}
 use Rattle.std.specs.Prelude.{option_to_list}
 use Rattle.ax_ask.specs.declared.op.BrowserOp.TheVariants as browsers
 use Rattle.ax_ask.specs.declared.op.TimedOp.{TimedOp}
@@ -11,10 +11,12 @@ use Rattle.ax_run_rules.specs.States.{FrameRun, State, Run, trees_of, find_frame
 use Rattle.ax_run_rules.specs.Steps.{next_token}
 use Rattle.ax_run_rules.specs.Finale.{delivery_of, is_behind}
 use Rattle.ax_core.specs.Items.{Steps}
-use Rattle.ax_core.specs.Finishing.{run_of, Told, Turns, Serves, Asks, Passes, Refreshes, RefreshesIf, CatchesUp, delivery_in}
+use Rattle.ax_core.specs.Finishing.{run_of, Then, Told, Turns, Serves, Asks, Passes, Refreshes, RefreshesIf, CatchesUp, delivery_in}
+use Rattle.ax_core.specs.Hearing.{Hears, AtFrame}
+use Rattle.ax_core.proofs.Hearing.{follows, joins}
 use Rattle.ax_core.proofs.Moving.{MovesBrowser, moves, steps_trees}
 use Rattle.ax_core.proofs.Telling.{line_delivery, live_delivery}
-use Rattle.ax_core.proofs.Turning.{asked_trees, item_at}
+use Rattle.ax_core.proofs.Turning.{asked_trees, item_at, as_many}
 
 abbrev tree_in : FrameRun → ℕ
 tree_in f = f.tree
@@ -114,3 +116,60 @@ module _ (t : ℕ) (r a : Run) where
 
 pub catches : (f : FrameRun) (b c : Bool) (r e : Run) → find_frame r.state f.tree ≡ Some f → c ≡ is_behind r.state f → RefreshesIf c f.tree b r e → CatchesUp f.tree b r e
 catches f b c r e found behind q = (f, (found, subst (λ x. RefreshesIf x f.tree b r e) behind q))
+
+-- ---- the parts of a refreshment as they are heard
+
+-- an ask and the delivery of its token, and then the pass too
+abbrev pub Delivers : FrameRun → Bool → Run → Run → Type 0
+Delivers f b r e = Then (Asks f.tree) (Told (deliver_item r.state f.tree)) b r e
+
+abbrev pub Sends : FrameRun → Bool → Run → Run → Type 0
+Sends f b r e = Then (Asks f.tree) (Then (Told (deliver_item r.state f.tree)) (Passes f.tree)) b r e
+
+delivered_trees : (f : FrameRun) (r e : Run) → Delivers f true r e → trees_of e.state ≡ trees_of r.state
+delivered_trees f r e q = told_trees (deliver_item r.state f.tree) q.0 e q.1.1 ∙ asks_trees f.tree r q.0 q.1.0
+
+pub still_there : (i : ℕ) (s m : State) (ks ls : List Line) → i < length s.frames → (f : FrameRun) → Delivers f true (run_of s ks) (run_of m ls) → i < length m.frames
+still_there i s m ks ls low f q = let k = as_many s m (delivered_trees f (run_of s ks) (run_of m ls) q) in omega (arith, k, low)
+
+-- the pass behind an ask and a delivery
+passes_behind : (i : ℕ) (s m e : State) (b : Bool) (f : FrameRun) (is js ks : List Line) → i < length s.frames → slice_get s.frames i ≡ Some f → Delivers f true (run_of s is) (run_of m js)
+    → AtFrame i (λ g. Passes g.tree) b (run_of m js) (run_of e ks) → Passes f.tree b (run_of m js) (run_of e ks)
+passes_behind i s m e b f is js ks low h p q =
+    passes_at s m i f b (run_of m js) (run_of e ks) (delivered_trees f (run_of s is) (run_of m js) p) h (still_there i s m is js low f p) q
+
+module _ {A : Type 0} {heard : A → Line → A} {i : ℕ} where
+  pub asked_first : {s m : State} {a b : A} → Hears heard (AtFrame i (λ f. Asks f.tree)) false s m a b → Hears heard (AtFrame i (λ f. Refreshes f.tree)) false s m a b
+  asked_first {s = s} {m = m} h = follows h (λ is js q f k. refresh_1 f.tree (run_of s is) (run_of m js) (q f k))
+
+  pub delivered_second : {s m e : State} {a b c : A} (d : Option Item) → ((f : FrameRun) → slice_get s.frames i ≡ Some f → is_gone s.history f.tree ≡ false)
+      → ((f : FrameRun) → slice_get s.frames i ≡ Some f → option_to_list d ≡ delivery_of s (browsers.Ask f.tree)) → Hears heard (AtFrame i (λ f. Asks f.tree)) true s m a b
+      → Hears heard (Turns (option_to_list d)) true m e b c → Hears heard (AtFrame i Delivers) true s e a c
+  delivered_second {s = s} {m = m} {e = e} d live given first h =
+      joins {b = true} first h
+      (λ is js ks p q f k. (run_of m js, (p f k, delivers s f.tree d true (run_of m js) (run_of e ks) (live f k) (given f k) q)))
+
+  pub halted_second : {s m e : State} {a b c : A} (d : Option Item) → ((f : FrameRun) → slice_get s.frames i ≡ Some f → is_gone s.history f.tree ≡ false)
+      → ((f : FrameRun) → slice_get s.frames i ≡ Some f → option_to_list d ≡ delivery_of s (browsers.Ask f.tree)) → Hears heard (AtFrame i (λ f. Asks f.tree)) true s m a b
+      → Hears heard (Turns (option_to_list d)) false m e b c → Hears heard (AtFrame i (λ f. Refreshes f.tree)) false s e a c
+  halted_second {s = s} {m = m} {e = e} d live given first h =
+      joins {b = false} first h
+      (λ is js ks p q f k. refresh_2 f.tree (run_of s is) (run_of m js) (p f k) (run_of e ks) (delivers s f.tree d false (run_of m js) (run_of e ks) (live f k) (given f k) q))
+
+  pub passed_third : {s m e : State} {a b c : A} → i < length s.frames → Hears heard (AtFrame i Delivers) true s m a b → Hears heard (AtFrame i (λ f. Passes f.tree)) true m e b c
+      → Hears heard (AtFrame i Sends) true s e a c
+  passed_third {s = s} {m = m} {e = e} low second h =
+      joins {b = true} second h
+      (λ is js ks p q f k. let x = p f k in (x.0, (x.1.0, (run_of m js, (x.1.1, passes_behind i s m e true f is js ks low k x q)))))
+
+  pub halted_third : {s m e : State} {a b c : A} → i < length s.frames → Hears heard (AtFrame i Delivers) true s m a b → Hears heard (AtFrame i (λ f. Passes f.tree)) false m e b c
+      → Hears heard (AtFrame i (λ f. Refreshes f.tree)) false s e a c
+  halted_third {s = s} {m = m} {e = e} low second h =
+      joins {b = false} second h
+      (λ is js ks p q f k. let x = p f k in refresh_3 f.tree (run_of s is) x.0 x.1.0 (run_of m js) x.1.1 (run_of e ks) (passes_behind i s m e false f is js ks low k x q))
+
+  pub received_last : {s m e : State} {a b c : A} (t : ℕ) (done : Bool) → ((f : FrameRun) → slice_get s.frames i ≡ Some f → t ≡ f.tree) → Hears heard (AtFrame i Sends) true s m a b
+      → Hears heard (Told (items.Receive t)) done m e b c → Hears heard (AtFrame i (λ f. Refreshes f.tree)) done s e a c
+  received_last {s = s} {m = m} {e = e} t done own third h =
+      joins {b = done} third h
+      (λ is js ks p q f k. let x = p f k in refresh_4 f.tree (run_of s is) x.0 x.1.0 x.1.1.0 x.1.1.1.0 (run_of m js) x.1.1.1.1 (run_of e ks) t done (own f k) q)

@@ -5,4 +5,5 @@ pub mod Receipts
 pub mod Standing
 pub mod Items
 pub mod Finishing
+pub mod Hearing
 pub mod Starting

@@ -8,11 +8,11 @@ ghost use Rattle.ax_trees.specs.Lists.{NoneTwice};
 ghost use Rattle.ax_ask.specs.declared.op.Item.TheVariants as items;
 ghost use Rattle.ax_ask.specs.declared.query.TimedQuery.{TimedQuery};
 ghost use Rattle.ax_core.specs.Standing.{IsWhole};
-ghost use Rattle.ax_core.specs.Finishing.{run_of, turns_of, frame_turn, receive_turn, ops_of, waits_of, ForEach, Told, Turns, Serves, Asks, Passes, Refreshes, CatchesUp, IsFinished, IsWithin, IsFinale, delivery_in};
-ghost use Rattle.ax_ask.specs.declared.op.TimedOp.{TimedOp};
+ghost use Rattle.ax_core.specs.Finishing.{turns_of, frame_turn, receive_turn, ops_of, waits_of, ForEach, Told, Turns, Serves, Asks, Passes, Refreshes, CatchesUp, IsFinished, IsWithin, IsFinale, delivery_in};
+ghost use Rattle.ax_core.specs.Hearing.{Hears, HearsFinale, AtFrame, AtReader, AtNext};
 
-use crate::Core;
 use crate::browsing::ask;
+use crate::{Core, Listener};
 use ax_ask::{Item, Line, Lines};
 use ax_base::{NoMemory, TreeId};
 use ax_tree::{Grove, TreeView};
@@ -28,173 +28,197 @@ impl Core {
         ensures stopped { OnErr result (IsWithin self.old self.new) }
     {
         let mut lines = Lines::new(self.alloc);
-        self.do_operations(&mut lines)?;
-        self.receive_packets(&mut lines)?;
-        self.serve(&mut lines)?;
-        self.catch_up(&mut lines)?;
-        self.answer_queries(&mut lines)?;
+        self.tell_finale(&mut lines)?;
         Ok(lines)
     }
 
+    /// Does the finale, and lets the listener hear each line as it comes. Where there is no memory, the run stands at a point
+    /// of its finale. Beside what its items and the listener cost it is linear in them, and it keeps no line.
+    pub fn tell_finale<A: Listener>(&mut self, listener: &mut A) -> Result<(), NoMemory>
+        ensures done { OnOk result (HearsFinale A.heard self.old self.new listener.old listener.new) }
+        ensures whole { OnOk result (IsWhole self.old → IsWhole self.new) }
+        ensures stopped { OnErr result (IsWithin self.old self.new) }
+    {
+        self.do_operations(listener)?;
+        self.receive_packets(listener)?;
+        self.serve(listener)?;
+        self.catch_up(listener)?;
+        self.answer_queries(listener)?;
+        Ok(())
+    }
+
     /// Does an item, and tells its line. Each item of a finale is there, so it is refused only for want of memory.
-    fn tell(&mut self, item: &Item, lines: &mut Lines) -> Result<(), NoMemory>
-        ensures { Told item.now (is_ok result) (run_of self.old lines.old) (run_of self.new lines.new) }
+    fn tell<A: Listener>(&mut self, item: &Item, listener: &mut A) -> Result<(), NoMemory>
+        ensures { Hears A.heard (Told item.now) (is_ok result) self.old self.new listener.old listener.new }
     {
         match self.step(item) {
-            Ok(line) => lines.push(line),
+            Ok(line) => listener.hear(line),
             Err(_) => Err(NoMemory),
         }
     }
 
     /// Does an item so many times.
-    fn tell_times(&mut self, item: &Item, times: usize, lines: &mut Lines) -> Result<(), NoMemory>
-        ensures { Turns (replicate times item.now) (is_ok result) (run_of self.old lines.old) (run_of self.new lines.new) }
+    fn tell_times<A: Listener>(
+        &mut self,
+        item: &Item,
+        times: usize,
+        listener: &mut A,
+    ) -> Result<(), NoMemory>
+        ensures { Hears A.heard (Turns (replicate times item.now)) (is_ok result) self.old self.new listener.old listener.new }
     {
         for _at in 0..times {
-            self.tell(item, lines)?;
+            self.tell(item, listener)?;
         }
         Ok(())
     }
 
     /// Does an item, if there is one.
-    fn tell_if(&mut self, item: Option<Item>, lines: &mut Lines) -> Result<(), NoMemory>
-        ensures { Turns (option_to_list item) (is_ok result) (run_of self.old lines.old) (run_of self.new lines.new) }
+    fn tell_if<A: Listener>(&mut self, item: Option<Item>, listener: &mut A) -> Result<(), NoMemory>
+        ensures { Hears A.heard (Turns (option_to_list item)) (is_ok result) self.old self.new listener.old listener.new }
     {
         match item {
-            Some(item) => self.tell(&item, lines),
+            Some(item) => self.tell(&item, listener),
             None => Ok(()),
         }
     }
 
-    fn do_operations(&mut self, lines: &mut Lines) -> Result<(), NoMemory>
-        ensures { Turns (ops_left self.old) (is_ok result) (run_of self.old lines.old) (run_of self.new lines.new) }
+    fn do_operations<A: Listener>(&mut self, listener: &mut A) -> Result<(), NoMemory>
+        ensures { Hears A.heard (Turns (ops_left self.old)) (is_ok result) self.old self.new listener.old listener.new }
     {
         for at in 0..self.frame_count() {
-            self.do_operations_at(at, lines)?;
+            self.do_operations_at(at, listener)?;
         }
         Ok(())
     }
 
     /// Does all that is left of a frame's operations.
-    fn do_operations_at(&mut self, at: usize, lines: &mut Lines) -> Result<(), NoMemory>
+    fn do_operations_at<A: Listener>(&mut self, at: usize, listener: &mut A) -> Result<(), NoMemory>
         requires { at < length self.old.frames }
-        ensures { (f : FrameRun) → slice_get self.old.frames at ≡ Some f → Turns (turns_of frame_turn ops_of f) (is_ok result) (run_of self.old lines.old) (run_of self.new lines.new) }
+        ensures { Hears A.heard (AtFrame at (λ f. Turns (turns_of frame_turn ops_of f))) (is_ok result) self.old self.new listener.old listener.new }
     {
         let (item, times) = self.operations_at(at);
-        self.tell_times(&item, times, lines)
+        self.tell_times(&item, times, listener)
     }
 
-    fn receive_packets(&mut self, lines: &mut Lines) -> Result<(), NoMemory>
-        ensures { Turns (packets_left self.old) (is_ok result) (run_of self.old lines.old) (run_of self.new lines.new) }
+    fn receive_packets<A: Listener>(&mut self, listener: &mut A) -> Result<(), NoMemory>
+        ensures { Hears A.heard (Turns (packets_left self.old)) (is_ok result) self.old self.new listener.old listener.new }
     {
         for at in 0..self.frame_count() {
-            self.receive_packets_at(at, lines)?;
+            self.receive_packets_at(at, listener)?;
         }
         Ok(())
     }
 
     /// Receives all packets of a frame.
-    fn receive_packets_at(&mut self, at: usize, lines: &mut Lines) -> Result<(), NoMemory>
+    fn receive_packets_at<A: Listener>(
+        &mut self,
+        at: usize,
+        listener: &mut A,
+    ) -> Result<(), NoMemory>
         requires { at < length self.old.frames }
-        ensures { (f : FrameRun) → slice_get self.old.frames at ≡ Some f → Turns (turns_of receive_turn waits_of f) (is_ok result) (run_of self.old lines.old) (run_of self.new lines.new) }
+        ensures { Hears A.heard (AtFrame at (λ f. Turns (turns_of receive_turn waits_of f))) (is_ok result) self.old self.new listener.old listener.new }
     {
         let (item, times) = self.packets_at(at);
-        self.tell_times(&item, times, lines)
+        self.tell_times(&item, times, listener)
     }
 
-    fn serve(&mut self, lines: &mut Lines) -> Result<(), NoMemory>
-        ensures { ForEach Serves self.old.browser (is_ok result) (run_of self.old lines.old) (run_of self.new lines.new) }
+    fn serve<A: Listener>(&mut self, listener: &mut A) -> Result<(), NoMemory>
+        ensures { Hears A.heard (ForEach Serves self.old.browser) (is_ok result) self.old self.new listener.old listener.new }
     {
         for _at in 0..self.browser_count() {
-            self.serve_next(lines)?;
+            self.serve_next(listener)?;
         }
         Ok(())
     }
 
     /// Does the browser's next operation, and delivers its token.
-    fn serve_next(&mut self, lines: &mut Lines) -> Result<(), NoMemory>
-        ensures { (o : TimedOp) → slice_get self.old.browser 0 ≡ Some o → Serves o (is_ok result) (run_of self.old lines.old) (run_of self.new lines.new) }
+    fn serve_next<A: Listener>(&mut self, listener: &mut A) -> Result<(), NoMemory>
+        ensures { Hears A.heard (AtNext Serves) (is_ok result) self.old self.new listener.old listener.new }
     {
         let Ok(line) = self.step(&Item::Browser) else {
             return Err(NoMemory);
         };
         let delivery = delivery_in(&line);
-        lines.push(line)?;
-        self.tell_if(delivery, lines)
+        listener.hear(line)?;
+        self.tell_if(delivery, listener)
     }
 
-    fn catch_up(&mut self, lines: &mut Lines) -> Result<(), NoMemory>
-        ensures { ForEach CatchesUp (trees_of self.old) (is_ok result) (run_of self.old lines.old) (run_of self.new lines.new) }
+    fn catch_up<A: Listener>(&mut self, listener: &mut A) -> Result<(), NoMemory>
+        ensures { Hears A.heard (ForEach CatchesUp (trees_of self.old)) (is_ok result) self.old self.new listener.old listener.new }
     {
         for at in 0..self.frame_count() {
-            self.catch_up_at(at, lines)?;
+            self.catch_up_at(at, listener)?;
         }
         Ok(())
     }
 
     /// Refreshes a tree that is behind its frame.
-    fn catch_up_at(&mut self, at: usize, lines: &mut Lines) -> Result<(), NoMemory>
+    fn catch_up_at<A: Listener>(&mut self, at: usize, listener: &mut A) -> Result<(), NoMemory>
         requires { at < length self.old.frames }
-        ensures { (f : FrameRun) → slice_get self.old.frames at ≡ Some f → CatchesUp f.tree (is_ok result) (run_of self.old lines.old) (run_of self.new lines.new) }
+        ensures { Hears A.heard (AtFrame at (λ f. CatchesUp f.tree)) (is_ok result) self.old self.new listener.old listener.new }
     {
         if self.is_behind(at) {
-            self.refresh(at, lines)
+            self.refresh(at, listener)
         } else {
             Ok(())
         }
     }
 
     /// Asks, delivers, passes and receives.
-    fn refresh(&mut self, at: usize, lines: &mut Lines) -> Result<(), NoMemory>
+    fn refresh<A: Listener>(&mut self, at: usize, listener: &mut A) -> Result<(), NoMemory>
         requires place { at < length self.old.frames }
         requires live { (f : FrameRun) → slice_get self.old.frames at ≡ Some f → is_gone self.old.history f.tree ≡ false }
-        ensures { (f : FrameRun) → slice_get self.old.frames at ≡ Some f → Refreshes f.tree (is_ok result) (run_of self.old lines.old) (run_of self.new lines.new) }
+        ensures { Hears A.heard (AtFrame at (λ f. Refreshes f.tree)) (is_ok result) self.old self.new listener.old listener.new }
     {
         let tree = self.tree_at(at);
-        let delivery = self.ask(at, lines)?;
-        self.tell_if(delivery, lines)?;
-        self.pass(at, lines)?;
-        self.tell(&Item::Receive(tree), lines)
+        let delivery = self.ask(at, listener)?;
+        self.tell_if(delivery, listener)?;
+        self.pass(at, listener)?;
+        self.tell(&Item::Receive(tree), listener)
     }
 
     /// Asks for the tree of a frame, and gives the delivery of its token.
-    fn ask(&mut self, at: usize, lines: &mut Lines) -> Result<Option<Item>, NoMemory>
+    fn ask<A: Listener>(&mut self, at: usize, listener: &mut A) -> Result<Option<Item>, NoMemory>
         requires { at < length self.old.frames }
-        ensures asked { (f : FrameRun) → slice_get self.old.frames at ≡ Some f → Asks f.tree (is_ok result) (run_of self.old lines.old) (run_of self.new lines.new) }
+        ensures asked { Hears A.heard (AtFrame at (λ f. Asks f.tree)) (is_ok result) self.old self.new listener.old listener.new }
         ensures delivery { IfOk result (λ item. (f : FrameRun) → slice_get self.old.frames at ≡ Some f → option_to_list item ≡ delivery_of self.old (browsers.Ask f.tree)) }
     {
         let tree = self.seats[at].frame().tree();
         let line = ask(&mut self.forest, tree)?;
         let delivery = delivery_in(&line);
-        lines.push(line)?;
+        listener.hear(line)?;
         Ok(delivery)
     }
 
     /// The frame passes, whatever is left of its operations.
-    fn pass(&mut self, at: usize, lines: &mut Lines) -> Result<(), NoMemory>
+    fn pass<A: Listener>(&mut self, at: usize, listener: &mut A) -> Result<(), NoMemory>
         requires { at < length self.old.frames }
-        ensures { (f : FrameRun) → slice_get self.old.frames at ≡ Some f → Passes f.tree (is_ok result) (run_of self.old lines.old) (run_of self.new lines.new) }
+        ensures { Hears A.heard (AtFrame at (λ f. Passes f.tree)) (is_ok result) self.old self.new listener.old listener.new }
     {
         let line = self.seats[at].pass()?;
-        lines.push(line)
+        listener.hear(line)
     }
 
-    fn answer_queries(&mut self, lines: &mut Lines) -> Result<(), NoMemory>
-        ensures { Turns (queries_left self.old) (is_ok result) (run_of self.old lines.old) (run_of self.new lines.new) }
+    fn answer_queries<A: Listener>(&mut self, listener: &mut A) -> Result<(), NoMemory>
+        ensures { Hears A.heard (Turns (queries_left self.old)) (is_ok result) self.old self.new listener.old listener.new }
     {
         for at in 0..self.reader_count() {
-            self.answer_queries_at(at, lines)?;
+            self.answer_queries_at(at, listener)?;
         }
         Ok(())
     }
 
     /// Answers all queries of the reader at a place, from 0.
-    fn answer_queries_at(&mut self, at: usize, lines: &mut Lines) -> Result<(), NoMemory>
+    fn answer_queries_at<A: Listener>(
+        &mut self,
+        at: usize,
+        listener: &mut A,
+    ) -> Result<(), NoMemory>
         requires { at < length self.old.readers }
-        ensures { (q : List TimedQuery) → slice_get self.old.readers at ≡ Some q → Turns (replicate (length q) (items.Reader (at + 1))) (is_ok result) (run_of self.old lines.old) (run_of self.new lines.new) }
+        ensures { Hears A.heard (AtReader at (λ q. Turns (replicate (length q) (items.Reader (at + 1))))) (is_ok result) self.old self.new listener.old listener.new }
     {
         let (item, times) = self.queries_at(at);
-        self.tell_times(&item, times, lines)
+        self.tell_times(&item, times, listener)
     }
 }
 

@@ -9,6 +9,7 @@
 mod answers;
 mod browsing;
 mod finale;
+mod listener;
 mod operating;
 mod places;
 mod queue;
@@ -21,4 +22,5 @@ mod starting;
 mod stepping;
 
 pub use answers::{Closed, CoreErr};
+pub use listener::Listener;
 pub use run::Core;

@@ -47,11 +47,14 @@ impl<T> Queue<T> {
 }
 
 impl<T: Drop> Queue<T> {
-    /// The next item is done.
+    /// The next item is done. With the last one the memory of the list goes.
     pub fn drop_first(&mut self)
         ensures { self.new ≡ drop 1 self.old }
     {
         let _done = self.items.pop_front();
+        if self.items.is_empty() {
+            self.items.shrink_to_fit();
+        }
     }
 
     /// So many items are done. Linear in them.

@@ -1,61 +1,94 @@
-//! Each call of the client tree, of the ancestors and of the serializer, once.
+//! Each call of the client tree, of the ancestors and of the serializer, once. Each step says whether it went as is wanted.
+
 use ax_base::{Ids, NodeId, TreeId};
 use ax_client::ClientTree;
 use ax_lca::last_common;
 use ax_serializer::{SerErr, Serializer};
 use ax_source::SourceTree;
 use std::alloc::Global;
-use std::test::Fail;
 
-fn id(n: u32) -> Result<NodeId, Fail> {
-    Ok(NodeId::new(n).ok_or("no id")?)
-}
-
-fn ids(alloc: Global, numbers: &[u32]) -> Result<Ids, Fail> {
-    let mut ids = Ids::new(alloc);
-    for number in numbers {
-        ids.push(id(*number)?)?;
+fn starts(client: &mut ClientTree, id: NodeId) -> bool {
+    match client.reserve(10) {
+        Ok(()) => {
+            client.start(id);
+            true
+        }
+        Err(_) => false,
     }
-    Ok(ids)
+}
+
+/// The ids down to one, and none where it isn't held.
+fn line(client: &ClientTree, id: NodeId) -> Option<Ids> {
+    match client.chain(id) {
+        Ok(line) => line,
+        Err(_) => None,
+    }
+}
+
+fn is_alone(line: Option<Ids>, id: NodeId) -> bool {
+    match line {
+        Some(line) => line.as_slice() == [id].as_slice(),
+        None => false,
+    }
+}
+
+fn has_its_line(client: &mut ClientTree, one: NodeId, two: NodeId) -> bool {
+    starts(client, one) && is_alone(line(client, one), one) && line(client, two).is_none()
 }
 
 #[test]
-fn a_client_has_its_chain(rt: HostRuntime) -> Result<(), Fail> {
+fn a_client_has_its_line(rt: HostRuntime) {
+    let one = NodeId::new(1).expect(&rt, "an id");
+    let two = NodeId::new(2).expect(&rt, "an id");
     let mut client = ClientTree::new(rt.alloc());
-    client.reserve(10)?;
-    client.start(id(1)?);
-    let chain = client.chain(id(1)?)?.ok_or("no chain")?;
-    assert_eq!(rt; chain.as_slice(), [id(1)?].as_slice());
-    assert!(rt; client.chain(id(2)?)?.is_none());
+    assert!(rt; has_its_line(&mut client, one, two));
     client.clear();
-    assert_eq!(rt; client.root(), None);
-    Ok(())
+    assert!(rt; client.root().is_none());
+}
+
+fn push_id(ids: &mut Ids, n: u32) -> bool {
+    match NodeId::new(n) {
+        Some(id) => ids.push(id).is_ok(),
+        None => false,
+    }
+}
+
+fn ids(alloc: Global, numbers: &[u32]) -> Ids {
+    let mut ids = Ids::new(alloc);
+    for n in numbers {
+        if !push_id(&mut ids, *n) {
+            return Ids::new(alloc);
+        }
+    }
+    ids
+}
+
+/// Whether the lines agree down to this id, 0 for none.
+fn agree(alloc: Global, a: &[u32], b: &[u32], n: u32) -> bool {
+    last_common(&ids(alloc, a), &ids(alloc, b)) == NodeId::new(n)
 }
 
 #[test]
-fn chains_agree_up_to_an_id(rt: HostRuntime) -> Result<(), Fail> {
+fn lines_agree_down_to_an_id(rt: HostRuntime) {
     let alloc = rt.alloc();
-    let a = ids(alloc, &[1, 2, 3])?;
-    let b = ids(alloc, &[1, 2, 4, 3])?;
-    assert_eq!(rt; last_common(&a, &b), Some(id(2)?));
-    assert_eq!(rt; last_common(&a, &ids(alloc, &[2, 1])?), None);
-    assert_eq!(rt; last_common(&a, &a), Some(id(3)?));
-    Ok(())
+    assert!(rt; agree(alloc, &[1, 2, 3], &[1, 2, 4, 3], 2));
+    assert!(rt; agree(alloc, &[1, 2, 3], &[2, 1], 0));
+    assert!(rt; agree(alloc, &[1, 2, 3], &[1, 2, 3], 3));
 }
 
-fn refusal(source: &mut SourceTree, serializer: &mut Serializer, node: NodeId) -> Option<SerErr> {
-    serializer.serialize_changes(source, node).err()
+fn is_strange(s: &mut SourceTree, z: &mut Serializer, node: NodeId) -> bool {
+    let answer = z.serialize_changes(s, node);
+    match &answer {
+        Ok(_) => false,
+        Err(refusal) => *refusal == SerErr::UnknownNode(node),
+    }
 }
 
 #[test]
-fn a_strange_id_has_no_update(rt: HostRuntime) -> Result<(), Fail> {
-    let alloc = rt.alloc();
-    let node = id(7)?;
-    let mut source = SourceTree::new(alloc, TreeId::new(1).ok_or("no tree")?);
-    let mut serializer = Serializer::new(alloc);
-    assert_eq!(rt;
-        refusal(&mut source, &mut serializer, node),
-        Some(SerErr::UnknownNode(node))
-    );
-    Ok(())
+fn a_strange_id_has_no_update(rt: HostRuntime) {
+    let tree = TreeId::new(1).expect(&rt, "an id");
+    let node = NodeId::new(7).expect(&rt, "an id");
+    let mut s = SourceTree::new(rt.alloc(), tree);
+    let mut z = Serializer::new(rt.alloc());
+    assert!(rt; is_strange(&mut s, &mut z, node));
 }

@@ -1,18 +1,19 @@
 -- Lists, chains, and the ids that stand over another.
-use Rattle.std.proofs.Common.{ℕ, ◌≡◌, ◌<◌, ◌≤◌, ◌+◌, Bool, true, false, cond, ◌||◌, eqb, List, [], ◌∷◌, ◌++◌, drop, take, length, get_or, Option, Some, None, refl, sym, ap, subst, ◌∙◌, arith}
-use Rattle.std.specs.Prelude.{unwrap_or, nat_eq}
+use Rattle.std.proofs.Common.{ℕ, ◌≡◌, ◌<◌, ◌≤◌, ◌+◌, Bool, true, false, cond, ◌||◌, eqb, List, [], ◌∷◌, ◌++◌, drop, length, get_or, Option, Some, None, refl, sym, ap, subst, ◌∙◌, append_assoc, arith}
+use Rattle.std.specs.Prelude.{is_some, unwrap_or, nat_eq}
 use Rattle.std.specs.List.{list_any}
 use Rattle.std.proofs.lemmas.Bool.{eqb-true, false≢true}
 use Rattle.std.proofs.lemmas.Bool.Decides.{eqb_tells}
-use Rattle.std.proofs.lemmas.List.{drop_all, take_more}
+use Rattle.std.proofs.lemmas.List.{append-nil, drop_all}
 use Rattle.ax_trees.specs.Trees.{Trees, bare, tree, has, IsDistinct, IsTree}
 use Rattle.ax_trees.specs.Nodes.{below, chain, parent}
 use Rattle.ax_trees.specs.Lists.{contains, common_prefix, last_that}
 use Rattle.ax_trees.proofs.Trees.{by_go, below_trans, not_below_self}
 use Rattle.ax_trees.proofs.Chains.{chain_below, below_one, chain_front, chain_absent}
-use Rattle.ax_views.proofs.Climbing.{IsAbove, is_above}
+use Rattle.ax_views.proofs.Climbing.{IsAbove, is_above, chain_top}
 use Rattle.ax_tree.specs.SerialRule.{last_common}
 use Rattle.ax_lca.specs.Chains.{last_or}
+use Rattle.ax_lca.specs.Closing.{is_one}
 use Rattle.ax_client.proofs.Taking.{drop_at}
 
 -- ---- lists
@@ -28,9 +29,6 @@ last_or-that (x ∷ xs) r = last_some xs x r
 pub last_that-push : (p : ℕ → Bool) (xs : List ℕ) (z d : ℕ) → last_that p (xs ++ z ∷ []) d ≡ cond (p z) z (last_that p xs d)
 last_that-push p [] z d = refl
 last_that-push p (x ∷ xs) z d = last_that-push p xs z (cond (p x) x d)
-
-pub last_that-next : (p : ℕ → Bool) (ids : List ℕ) (i z d : ℕ) → i < length ids → z ≡ get_or ids i z → last_that p (take (i + 1) ids) d ≡ cond (p z) z (last_that p (take i ids) d)
-last_that-next p ids i z d h e = ap (λ js. last_that p js d) (take_more ids i z h ∙ ap (λ y. take i ids ++ y ∷ []) (sym e)) ∙ last_that-push p (take i ids) z d
 
 -- what a mark list has
 pub mark-contains : (m : List ℕ) (z : ℕ) → list_any (λ other. nat_eq other z) m ≡ contains m z
@@ -139,3 +137,63 @@ common_from c f r a root common own there o er eo et el ec =
 
 pub root_from : (o : Option ℕ) (p : Option ℕ) (root d r : ℕ) → root ≡ unwrap_or o d → o ≡ p → p ≡ Some r → root ≡ r
 root_from o p root d r e q h = e ∙ ap (λ v. unwrap_or v d) (q ∙ h)
+
+-- ---- the climb to the last id of a chain that passes a test
+
+pub held_over : {X : Type 0} (p : ℕ → Bool) (f : Trees X) (z y d : ℕ) → IsAbove f z y → p z ≡ false → last_that p (chain f z) d ≡ last_that p (chain f y) d
+held_over p f z y d a fails = ap (λ xs. last_that p xs d) a.on ∙ last_that-push p (chain f y) z d ∙ (rw fails refl)
+
+pub held_none : {X : Type 0} (p : ℕ → Bool) (f : Trees X) (z d : ℕ) → IsDistinct f → has f z ≡ true → parent f z ≡ None → p z ≡ false → last_that p (chain f z) d ≡ d
+held_none p f z d di h n fails = ap (λ xs. last_that p xs d) (chain_top f z di h n) ∙ (rw fails refl)
+
+pub held_here : {X : Type 0} (p : ℕ → Bool) (f : Trees X) (z d : ℕ) → has f z ≡ true → p z ≡ true → last_that p (chain f z) d ≡ z
+held_here p bare z d h t = absurd (false≢true h)
+held_here p (tree i x k r) z d h t =
+    by_go (eqb i z)
+    (λ q. let t' : p i ≡ true = subst (λ v. p v ≡ true) (sym (eqb-true i z q)) t in rw (q, t') (eqb-true i z q))
+    (λ q. by_go (has k z)
+    (λ u. rw (q, u) (held_here p k z (cond (p i) i d) u t))
+    (λ u. rw (q, u) (held_here p r z d (grind (arith, h, q, u)) t)))
+
+-- ---- chains that are the same in both
+
+-- from y on, z has the same chain in both
+pub record IsShared {X E : Type 0} (c : Trees E) (f : Trees X) (z y : ℕ) : Type 0 where
+  pub there : has f y ≡ true
+  pub held : has c y ≡ true
+  pub rest : List ℕ
+  pub own : chain f y ++ rest ≡ chain f z
+  pub other : chain c y ++ rest ≡ chain c z
+
+pub shared_begins : {X E : Type 0} (c : Trees E) (f : Trees X) (z : ℕ) → has f z ≡ true → has c z ≡ true → IsShared c f z z
+shared_begins c f z a b = record { there = a; held = b; rest = []; own = append-nil (chain f z); other = append-nil (chain c z) }
+
+pub shared_next : {X E : Type 0} (c : Trees E) (f : Trees X) (z y x : ℕ) → IsShared c f z y → IsAbove f y x → IsAbove c y x → IsShared c f z x
+shared_next c f z y x s a b = record {
+  there = a.up;
+  held = b.up;
+  rest = y ∷ s.rest;
+  own = sym (append_assoc (chain f x) (y ∷ []) s.rest) ∙ ap (λ zs. zs ++ s.rest) (sym a.on) ∙ s.own;
+  other = sym (append_assoc (chain c x) (y ∷ []) s.rest) ∙ ap (λ zs. zs ++ s.rest) (sym b.on) ∙ s.other;
+}
+
+pub shared_ends : {X E : Type 0} (c : Trees E) (f : Trees X) (z y : ℕ) → IsDistinct c → IsDistinct f → IsShared c f z y → parent f y ≡ None → parent c y ≡ None → chain f z ≡ chain c z
+shared_ends c f z y dc df s a b =
+    sym s.own ∙ ap (λ zs. zs ++ s.rest) (chain_top f y df s.there a ∙ sym (chain_top c y dc s.held b)) ∙ s.other
+
+pub one_is : (o : Option ℕ) (y : ℕ) → is_one o y ≡ true → o ≡ Some y
+one_is None y h = absurd (false≢true h)
+one_is (Some x) y h = ap (λ v. Some v) (eqb-true x y h)
+
+pub none_is : (o : Option ℕ) → is_some o ≡ false → o ≡ None
+none_is None h = refl
+none_is (Some x) h = absurd (false≢true (sym h))
+
+prefix_self : (xs : List ℕ) → common_prefix xs xs ≡ xs
+prefix_self [] = refl
+prefix_self (x ∷ xs) = let self : eqb x x ≡ true = grind (arith, eqb_tells x x) in rw self (ap (λ ys. x ∷ ys) (prefix_self xs))
+
+-- an id whose chain is the same in both is the last that they have in common
+pub shared_self : {X E : Type 0} (c : Trees E) (f : Trees X) (r z : ℕ) → has f z ≡ true → chain f z ≡ chain c z → z ≡ last_common c f r z
+shared_self c f r z h e =
+    sym (ap (λ xs. last_that (λ _. true) (common_prefix (chain f z) xs) r) (sym e) ∙ ap (λ xs. last_that (λ _. true) xs r) (prefix_self (chain f z)) ∙ held_here (λ _. true) f z r h refl)

@@ -6,14 +6,14 @@ ghost use Rattle.ax_tree.specs.SerialRule.{from_root, goes_on, reached_fit, stan
 ghost use Rattle.ax_lca.specs.Reached.{all_under, ids_of, is_under};
 
 use ax_base::{Ids, NoMemory, NodeId};
-use ax_client::ClientTree;
+use ax_client::{ClientTree, place_near};
 use ax_marks::Marks;
 use ax_tree::TreeView;
 use std::alloc::Global;
 
 /// What is reached from `x`, in pre-order, and whether each child of a reached node that the client has stands under that
 /// node there. Reach goes on through the children that the client doesn't have or that are marked. Costs the reached nodes
-/// with their child lists.
+/// with their child lists; of the children that the client lists in the same order, only the marks are looked up.
 pub fn reach<T: TreeView>(
     alloc: Global,
     s: &T,
@@ -33,7 +33,7 @@ pub fn reach<T: TreeView>(
     while let Some(next) = stack.pop() {
         if let Some(node) = s.node(next) {
             ids.push(next)?;
-            let here = push_reached(c, m, next, node.children.as_slice(), &mut stack)?;
+            let here = push_reached(alloc, c, m, next, node.children.as_slice(), &mut stack)?;
             fits = both(fits, here);
         }
     }
@@ -47,8 +47,9 @@ fn both(a: bool, b: bool) -> bool
 }
 
 /// Puts the children through which reach goes on on the stack, the last one first, and tells whether those that the client
-/// has stand under `over` there.
+/// has stand under `over` there. Of the children that the client lists there in the same order, only the marks are asked.
 fn push_reached(
+    alloc: Global,
     c: &ClientTree,
     m: &Marks,
     over: NodeId,
@@ -58,14 +59,20 @@ fn push_reached(
     ensures pushed { OnOk result (stack.new ≡ stack.old ++ reverse (filter (goes_on c.now.tree m.now) children.now)) }
     ensures fits { IfOk result (λ b. b ≡ all_under c.now.tree over children.now) }
 {
+    let held = c.children(over);
+    let mut going = Ids::new(alloc);
     let mut fits = true;
-    let mut left = children.len();
-    while left > 0 {
-        left -= 1;
-        let child = children[left];
-        fits = both(fits_under(c, over, child), fits);
-        push_if(stack, child, goes_on(c, m, child))?;
+    let mut passed = 0;
+    for child in children {
+        if let Some(place) = place_near(held, passed, *child) {
+            push_if(&mut going, *child, m.has(*child))?;
+            passed = place + 1;
+            continue;
+        }
+        push_if(&mut going, *child, goes_on(c, m, *child))?;
+        fits = both(fits, fits_under(c, over, *child));
     }
+    stack.push_reversed(&going)?;
     Ok(fits)
 }
 

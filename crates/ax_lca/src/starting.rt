@@ -1,11 +1,12 @@
 //! Where two chains part, and where reach starts.
-ghost use Rattle.std.specs.Prelude.{◌≡◌, ℕ, None, Some, IfOk, if◌then◌else◌};
+ghost use Rattle.std.specs.Prelude.{◌≡◌, ℕ, None, Some, IfOk, IsTrue, true};
 ghost use Rattle.ax_trees.specs.Lists.{common_prefix, last_that};
 ghost use Rattle.ax_trees.specs.Trees.{has, root_of};
 ghost use Rattle.ax_trees.specs.Nodes.{chain};
 ghost use Rattle.ax_tree.specs.SerialRule.{last_common, last_held};
 ghost use Rattle.ax_lca.specs.Chains.{last_or};
 
+use crate::closing::is_one;
 use ax_base::{Ids, NoMemory, NodeId};
 use ax_client::ClientTree;
 use ax_tree::TreeView;
@@ -37,21 +38,47 @@ fn common(a: &[NodeId], b: &[NodeId]) -> Option<NodeId>
     last
 }
 
-/// The last of the ids that the client has, or `first`.
-fn last_held(c: &ClientTree, ids: &[NodeId], first: NodeId) -> NodeId
-    ensures { result ≡ last_that (has c.now.tree) ids.now first }
+/// The last id of `d`'s chain that the client has, or `first`. Costs the way up to it.
+fn last_held<T: TreeView>(s: &T, c: &ClientTree, d: NodeId, first: NodeId) -> NodeId
+    ensures { result ≡ last_that (has c.now.tree) (chain (T.tree s.now).trees d) first }
 {
-    let mut last = first;
-    for id in ids {
-        last = held_or(c, *id, last);
+    let _ = s.root();
+    match s.node(d) {
+        Some(_) => {}
+        None => return first,
     }
-    last
+    let mut at = d;
+    while !c.holds(at) {
+        at = match s.parent(at) {
+            Some(above) => above,
+            None => return first,
+        };
+    }
+    at
 }
 
-fn held_or(c: &ClientTree, id: NodeId, other: NodeId) -> NodeId
-    ensures { result ≡ (if has c.now.tree id then id else other) }
+/// Where true, an id that both have has the same chain in both. Costs the depth, and takes no memory.
+fn same_chain<T: TreeView>(s: &T, c: &ClientTree, id: NodeId) -> bool
+    ensures there { IsTrue result → has (T.tree s.now).trees id ≡ true }
+    ensures same { IsTrue result → chain (T.tree s.now).trees id ≡ chain c.now.tree id }
 {
-    if c.holds(id) { id } else { other }
+    let _ = s.root();
+    let _ = c.root();
+    match s.node(id) {
+        Some(_) => {}
+        None => return false,
+    }
+    if !c.holds(id) {
+        return false;
+    }
+    let mut at = id;
+    while let Some(above) = s.parent(at) {
+        if !is_one(&c.parent(at), above) {
+            return false;
+        }
+        at = above;
+    }
+    c.parent(at).is_none()
 }
 
 /// The ids from the client's root to an id; none where it isn't held.
@@ -64,8 +91,28 @@ fn chain_held(alloc: Global, c: &ClientTree, id: NodeId) -> Result<Ids, NoMemory
     }
 }
 
+/// The last id that the chains of an id in the source and in the client begin with in common, or `first`.
+fn last_shared<T: TreeView>(
+    alloc: Global,
+    s: &T,
+    c: &ClientTree,
+    id: NodeId,
+    first: NodeId,
+) -> Result<NodeId, NoMemory>
+    ensures { IfOk result (λ last. last ≡ last_common c.now.tree (T.tree s.now).trees first id) }
+{
+    let _ = s.root();
+    if same_chain(s, c, id) {
+        return Ok(id);
+    }
+    let own = chain(alloc, s, id)?;
+    let there = chain_held(alloc, c, id)?;
+    Ok(last_common(&own, &there).unwrap_or(first))
+}
+
 /// Where a partial update at `d` begins: the last id `a` of `d`'s chain that the client has, and the last id that `a`'s
-/// chains in the source and in the client begin with in common. Both are the root where there is no such id. Costs the depth.
+/// chains in the source and in the client begin with in common. Both are the root where there is no such id. Costs the
+/// depth; memory is taken only where the chains differ.
 pub fn start<T: TreeView>(
     alloc: Global,
     s: &T,
@@ -76,10 +123,7 @@ pub fn start<T: TreeView>(
     ensures common { IfOk result (λ p. (r : ℕ) → root_of (T.tree s.now).trees ≡ Some r → p.1 ≡ last_common c.now.tree (T.tree s.now).trees r p.0) }
 {
     let root = s.root().unwrap_or(d);
-    let chain_of_d = chain(alloc, s, d)?;
-    let held = last_held(c, chain_of_d.as_slice(), root);
-    let own = chain(alloc, s, held)?;
-    let there = chain_held(alloc, c, held)?;
-    let common = last_common(&own, &there).unwrap_or(root);
+    let held = last_held(s, c, d, root);
+    let common = last_shared(alloc, s, c, held, root)?;
     Ok((held, common))
 }

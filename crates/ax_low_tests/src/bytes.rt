@@ -1,5 +1,5 @@
 //! Sources and sinks: each call once, how much a read asks for, and the adapters over std.
-ghost use Rattle.std.specs.Prelude.{◌≤◌, None};
+ghost use Rattle.std.specs.Prelude.{None};
 
 use ax_io::{
     Failed, MemSink, MemSource, Sink, Source, StdSink, StdSource, SureSink, SureSource, WriteFault,
@@ -8,7 +8,6 @@ use ax_io::{
 use std::alloc::Global;
 use std::io;
 use std::io::{ErrorKind, Read};
-use std::test::Fail;
 
 /// Reads all, and writes what was read.
 fn copied<S: Source, K: Sink>(alloc: Global, src: &mut S, out: &mut K) -> bool {
@@ -18,24 +17,41 @@ fn copied<S: Source, K: Sink>(alloc: Global, src: &mut S, out: &mut K) -> bool {
     }
 }
 
-fn sink(alloc: Global, room: usize, chunk: usize, failing: Vec<u64>) -> Result<MemSink, Fail>
-    requires { 1 ≤ chunk }
-{
-    MemSink::new(alloc, room, chunk, failing).map_err(|_| Fail::from("memory"))
+fn is_held(alloc: Global, src: &mut MemSource, out: &mut MemSink) -> bool {
+    copied(alloc, src, out)
+        && out.held() == b"some bytes".as_slice()
+        && src.faults() == 0
+        && out.faults() == 0
+}
+
+fn is_sunk(alloc: Global, src: &mut MemSource) -> bool {
+    match MemSink::new(alloc, 10, 4, Vec::new(alloc)) {
+        Ok(mut out) => is_held(alloc, src, &mut out),
+        Err(_) => false,
+    }
+}
+
+fn is_copied(alloc: Global, bytes: Vec<u8>) -> bool {
+    is_sunk(alloc, &mut MemSource::new(bytes, 3, Vec::new(alloc)))
+}
+
+fn is_surely_copied(alloc: Global, bytes: Vec<u8>) -> bool {
+    let mut sure = SureSource::new(bytes);
+    copied(alloc, &mut sure, &mut SureSink) && sure.faults() == 0 && SureSink.faults() == 0
+}
+
+fn bytes(alloc: Global, text: &str) -> Vec<u8> {
+    match text.as_bytes().to_vec(alloc) {
+        Ok(bytes) => bytes,
+        Err(_) => Vec::new(alloc),
+    }
 }
 
 #[test]
-fn memory_is_copied(rt: HostRuntime) -> Result<(), Fail> {
+fn memory_is_copied(rt: HostRuntime) {
     let alloc = rt.alloc();
-    let mut src = MemSource::new(b"some bytes".to_vec(alloc)?, 3, Vec::new(alloc));
-    let mut out = sink(alloc, 10, 4, Vec::new(alloc))?;
-    assert!(&rt; copied(alloc, &mut src, &mut out));
-    assert_eq!(&rt; out.held(), b"some bytes".as_slice());
-    assert_eq!(&rt; (src.faults(), out.faults()), (0, 0));
-    let mut sure = SureSource::new(b"x".to_vec(alloc)?);
-    assert!(&rt; copied(alloc, &mut sure, &mut SureSink));
-    assert_eq!(&rt; (sure.faults(), SureSink.faults()), (0, 0));
-    Ok(())
+    assert!(rt; is_copied(alloc, bytes(alloc, "some bytes")));
+    assert!(rt; is_surely_copied(alloc, bytes(alloc, "x")));
 }
 
 /// A source that notes how much room each of its first two reads had, and gives as many bytes.
@@ -63,16 +79,21 @@ impl Source for Noting {
     }
 }
 
+fn takes_one_too_many(alloc: Global, src: &mut Noting) -> bool {
+    match read_up_to(alloc, src, 5000) {
+        Ok(bytes) => bytes.len() == 5001,
+        Err(_) => false,
+    }
+}
+
 #[test]
-fn a_read_offers_what_is_wanted(rt: HostRuntime) -> Result<(), Fail> {
+fn a_read_offers_what_is_wanted(rt: HostRuntime) {
     let mut src = Noting {
         calls: 0,
         rooms: [0, 0],
     };
-    let bytes = read_up_to(rt.alloc(), &mut src, 5000).map_err(|_| Fail::from("memory"))?;
-    assert_eq!(&rt; bytes.len(), 5001);
-    assert_eq!(&rt; src.rooms, [4096, 905]);
-    Ok(())
+    assert!(rt; takes_one_too_many(rt.alloc(), &mut src));
+    assert!(rt; src.rooms == [4096, 905]);
 }
 
 /// A reader that only fails.
@@ -85,21 +106,26 @@ impl Read for Broken {
     }
 }
 
-#[test]
-fn readers_and_writers_of_std_count_faults(rt: HostRuntime) -> Result<(), Fail> {
-    let alloc = rt.alloc();
+fn std_is_copied(alloc: Global) -> bool {
     let mut src = StdSource::new(b"bytes".as_slice());
     let mut out = StdSink::new(Vec::new(alloc));
-    assert!(&rt; copied(alloc, &mut src, &mut out));
-    assert_eq!(&rt; (src.faults(), out.faults()), (0, 0));
+    copied(alloc, &mut src, &mut out) && src.faults() == 0 && out.faults() == 0
+}
 
+fn a_broken_reader_counts(alloc: Global) -> bool {
     let mut broken = StdSource::new(Broken);
-    assert!(&rt; !copied(alloc, &mut broken, &mut SureSink));
-    assert_eq!(&rt; broken.faults(), 1);
+    !copied(alloc, &mut broken, &mut SureSink) && broken.faults() == 1
+}
 
+fn a_short_writer_counts() -> bool {
     let mut room = [0u8; 2];
     let mut short = StdSink::new(room.as_mut_slice());
-    assert_eq!(&rt; write_whole(&mut short, b"abc"), Err(WriteFault));
-    assert_eq!(&rt; short.faults(), 1);
-    Ok(())
+    write_whole(&mut short, b"abc") == Err(WriteFault) && short.faults() == 1
+}
+
+#[test]
+fn readers_and_writers_of_std_count_faults(rt: HostRuntime) {
+    assert!(rt; std_is_copied(rt.alloc()));
+    assert!(rt; a_broken_reader_counts(rt.alloc()));
+    assert!(rt; a_short_writer_counts());
 }

@@ -1,56 +1,63 @@
 //! Each command once, and words that are none.
-use ax_base::{NoMemory, Text};
+use ax_base::Text;
 use ax_words::{Command, read_words};
 use std::alloc::Global;
-use std::test::Fail;
 
-fn read(alloc: Global, words: &[&str]) -> Result<Option<Command>, NoMemory> {
+fn push_word(alloc: Global, texts: &mut Vec<Text>, word: &str) -> bool {
+    match Text::of(alloc, word) {
+        Ok(text) => texts.push(text).is_ok(),
+        Err(_) => false,
+    }
+}
+
+fn texts(alloc: Global, words: &[&str]) -> Option<Vec<Text>> {
     let mut texts = Vec::new(alloc);
     for word in words {
-        texts.push(Text::of(alloc, word)?)?;
+        if !push_word(alloc, &mut texts, word) {
+            return None;
+        }
     }
-    read_words(alloc, &texts)
+    Some(texts)
 }
 
-#[test]
-fn commands_are_read(rt: HostRuntime) -> Result<(), Fail> {
-    let alloc = rt.alloc();
-    assert_eq!(&rt;
-        read(alloc, ["replay"].as_slice()),
-        Ok(Some(Command::Replay))
-    );
-    assert_eq!(&rt; read(alloc, ["race"].as_slice()), Ok(Some(Command::Race)));
-    assert_eq!(&rt;
-        read(alloc, ["combine"].as_slice()),
-        Ok(Some(Command::Combine))
-    );
-    assert_eq!(&rt; read(alloc, ["act"].as_slice()), Ok(Some(Command::Act)));
-    assert_eq!(&rt;
-        read(alloc, ["gen", "0", "1", "1"].as_slice()),
-        Ok(Some(Command::Gen {
+fn are_read(alloc: Global, words: &[&str], wanted: Option<Command>) -> bool {
+    match texts(alloc, words) {
+        Some(texts) => read_words(alloc, texts.as_slice()) == Ok(wanted),
+        None => false,
+    }
+}
+
+const READ: [(&[&str], Option<Command>); 11] = [
+    (&["replay"], Some(Command::Replay)),
+    (&["race"], Some(Command::Race)),
+    (&["combine"], Some(Command::Combine)),
+    (&["act"], Some(Command::Act)),
+    (
+        &["gen", "0", "1", "1"],
+        Some(Command::Gen {
             seed: 0,
             frames: 1,
-            ops: 1
-        }))
-    );
-    assert_eq!(&rt;
-        read(alloc, ["gen", "4294967295", "1000", "900000"].as_slice()),
-        Ok(Some(Command::Gen {
-            seed: 4294967295,
+            ops: 1,
+        }),
+    ),
+    (
+        &["gen", "4294967295", "1000", "900000"],
+        Some(Command::Gen {
+            seed: 4_294_967_295,
             frames: 1000,
-            ops: 900000
-        }))
-    );
-    Ok(())
-}
+            ops: 900_000,
+        }),
+    ),
+    (&[], None),
+    (&["replay", "x"], None),
+    (&["-h"], None),
+    (&["help"], None),
+    (&["--version"], None),
+];
 
 #[test]
-fn other_words_are_no_command(rt: HostRuntime) -> Result<(), Fail> {
-    let alloc = rt.alloc();
-    assert_eq!(&rt; read(alloc, [].as_slice()), Ok(None));
-    assert_eq!(&rt; read(alloc, ["replay", "x"].as_slice()), Ok(None));
-    for word in ["-h", "help", "--version"] {
-        assert_eq!(&rt; read(alloc, [word].as_slice()), Ok(None));
+fn words_are_read(rt: HostRuntime) {
+    for (words, command) in READ {
+        assert!(rt; are_read(rt.alloc(), words, command));
     }
-    Ok(())
 }

@@ -2,6 +2,8 @@
 #![tactic(auto)]
 
 #[cfg(test)]
+mod combined;
+#[cfg(test)]
 mod events;
 #[cfg(test)]
 mod hosts;

@@ -99,7 +99,7 @@ module _ {X Z : Type 0} where
   longer b xs ys e = record { slots = λ j. slot_longer b xs ys j e; used = used_longer b xs ys e; len = length_longer b xs ys e }
 
   -- the element at a place, as a page has it
-  slot_is : (xs : List (Option (Arc X Z))) (i : ℕ) (o : Option (Arc X Z)) → i < length xs → o ≡ get_or xs i o → slot (values_in xs) i ≡ option_map arc_value o
+  pub slot_is : (xs : List (Option (Arc X Z))) (i : ℕ) (o : Option (Arc X Z)) → i < length xs → o ≡ get_or xs i o → slot (values_in xs) i ≡ option_map arc_value o
   slot_is [] i o h e = absurd (omega arith)
   slot_is (None ∷ xs) zero o h e = rw e refl
   slot_is (Some a ∷ xs) zero o h e = rw e refl

@@ -1,5 +1,5 @@
 //! A page of at most 64 values.
-ghost use Rattle.std.specs.Prelude.{◌≡◌, ◌≤◌, ◌<◌, ◌+◌, ℕ, [], length, IfOk, OnOk, OnErr, IsTrue, option_map, nat_eq, is_some, if◌then◌else◌};
+ghost use Rattle.std.specs.Prelude.{◌≡◌, ◌≤◌, ◌<◌, ◌+◌, ℕ, [], length, IfOk, OnOk, OnErr, IsTrue, IsSome, option_map, nat_eq, is_some, if◌then◌else◌, Some, None};
 ghost use Rattle.std.specs.Option.{option_copied};
 ghost use Rattle.std.specs.Arc.{arc_value};
 ghost use Rattle.ax_pages.specs.Slots.{slot, used_count, one_if_some};
@@ -8,6 +8,7 @@ use crate::Steps;
 use ax_base::NoMemory;
 use std::alloc::Global;
 use std::marker::Model;
+use std::mem;
 use std::sync::Arc;
 use std::sync::ledger::Ledger;
 
@@ -77,6 +78,18 @@ impl<T: Drop> Page<T> {
         Ok(())
     }
 
+    /// Puts a value at a place that the page reaches, or none. Answers what was there, and takes no memory.
+    fn replace(&mut self, place: usize, value: Option<Arc<T>>) -> Option<Arc<T>>
+        requires { place < length self.old }
+        ensures was { option_map arc_value result ≡ slot self.old place }
+        ensures slots { (j : ℕ) → slot self.new j ≡ (if nat_eq place j then option_map arc_value value else slot self.old j) }
+        ensures used { used_count self.new + one_if_some (slot self.old place) ≡ used_count self.old + one_if_some (option_map arc_value value) }
+        ensures len { length self.new ≡ length self.old }
+    {
+        self.used = count_after(self.used, self.slots[place].is_some(), value.is_some());
+        mem::replace(&mut self.slots[place], value)
+    }
+
     /// Puts a value at its place, or takes out what is there.
     pub fn set(&mut self, place: usize, value: Option<Arc<T>>) -> Result<(), NoMemory>
         requires { place < 64 }
@@ -86,9 +99,32 @@ impl<T: Drop> Page<T> {
         ensures err_used { OnErr result (used_count self.new ≡ used_count self.old) }
     {
         self.lengthen(place + 1)?;
-        self.used = count_after(self.used, self.slots[place].is_some(), value.is_some());
-        self.slots[place] = value;
+        let _ = self.replace(place, value);
         Ok(())
+    }
+
+    /// Takes out the value at a place, so that it can be changed and put back.
+    pub fn take(&mut self, place: usize) -> Option<Arc<T>>
+        ensures was { option_map arc_value result ≡ slot self.old place }
+        ensures none { result ≡ None → self.new ≡ self.old }
+        ensures slots { IsSome result → (j : ℕ) → slot self.new j ≡ (if nat_eq place j then None else slot self.old j) }
+        ensures used { IsSome result → used_count self.new + 1 ≡ used_count self.old }
+        ensures room { IsSome result → place < length self.new }
+    {
+        if self.get(place).is_none() {
+            return None;
+        }
+        self.replace(place, None)
+    }
+
+    /// Puts back a value at the place from which one was taken. It takes no memory.
+    pub fn put_back(&mut self, place: usize, value: Arc<T>)
+        requires room { place < length self.old }
+        requires free { slot self.old place ≡ None }
+        ensures slots { (j : ℕ) → slot self.new j ≡ (if nat_eq place j then Some (arc_value value) else slot self.old j) }
+        ensures used { used_count self.new ≡ used_count self.old + 1 }
+    {
+        let _ = self.replace(place, Some(value));
     }
 }
 
@@ -112,6 +148,13 @@ impl<T: Drop> Page<T> {
         ensures cost { steps.new ≡ steps.old + 1 }
     {
         steps.tick();
+        self.duplicate(alloc)
+    }
+
+    /// The same as `copy`, without a step.
+    pub fn duplicate(&self, alloc: Global) -> Result<Page<T>, NoMemory>
+        ensures { IfOk result (λ p. p ≡ self.now) }
+    {
         let mut slots = Vec::new(alloc);
         for value in &self.slots {
             let value = match value {

@@ -88,7 +88,8 @@ impl<T> Paged<T> {
 
 impl<T: Drop> Paged<T> {
     /// Puts a value at an id, in constant time where this is the only owner. Behind a share the first write copies the
-    /// table, and the first write to a page copies that page, which takes a step.
+    /// table, which has a count for each 4,096 ids, the first write to a block copies its at most 64 counts, and the first
+    /// write to a page copies that page, which takes a step.
     pub fn write<L: Ledger>(
         &mut self,
         id: NodeId,
@@ -117,8 +118,8 @@ impl<T: Drop> Paged<T> {
         Ok(())
     }
 
-    /// Takes out the value at an id, at the cost of a write. A page whose last value goes is freed, and an id that has
-    /// none changes and copies nothing.
+    /// Takes out the value at an id, at the cost of a write. A page or block whose last value goes is freed, without being
+    /// copied, and an id that has none changes and copies nothing.
     pub fn erase<L: Ledger>(&mut self, id: NodeId, steps: &mut Steps<L>) -> Result<(), NoMemory>
         ensures ok { OnOk result (self.new ≡ map.remove self.old id) }
         ensures err { OnErr result (self.new ≡ self.old) }

@@ -1,14 +1,17 @@
-//! The table of pages.
-ghost use Rattle.std.specs.Prelude.{◌≡◌, ◌≢◌, ◌≤◌, ◌<◌, ◌+◌, ◌*◌, ◌/◌, ◌%◌, ℕ, IfOk, OnOk, OnErr, IsSome, option_map, nat_eq, true, false, if◌then◌else◌, Some, None};
+//! The table of blocks.
+ghost use Rattle.std.specs.Prelude.{◌≡◌, ◌≤◌, ◌<◌, ◌+◌, ◌/◌, ◌%◌, ℕ, IfOk, OnOk, OnErr, IsSome, nat_eq, true, false, if◌then◌else◌, Some, None};
 ghost use Rattle.std.specs.Option.{option_copied, ForSome};
 ghost use Rattle.std.specs.Arc.{arc_value};
 ghost use Rattle.std.specs.Ordering.{nat_cmp};
 ghost use Rattle.std.specs.FinMap as map;
 ghost use Rattle.std.specs.HashMap.{get};
-ghost use Rattle.ax_pages.specs.Table.{value_at, Puts, IsSame, EachIsUsed};
-ghost use Rattle.ax_pages.specs.Slots.{slot, used_count, one_if_some};
+ghost use Rattle.ax_pages.specs.Table.{value_at, value_in, Puts, PutsIn, IsSame, IsSameIn, EachIsUsed, PagesAreUsed, IsLast};
+ghost use Rattle.ax_pages.specs.Slots.{used_count};
 
 use crate::Steps;
+use crate::block::{
+    Block, Change, found_in, is_last, make_own, make_own_in, page_of, put_in, take_from,
+};
 use crate::page::Page;
 use ax_base::{NoMemory, NodeId};
 use std::alloc::Global;
@@ -17,10 +20,10 @@ use std::marker::Model;
 use std::sync::Arc;
 use std::sync::ledger::Ledger;
 
-/// Pages by their number. No page is empty, and there is no table before the first value.
+/// Blocks by their number. Neither a block nor a page is empty, and there is no table before the first value.
 #[derive(Drop)]
 pub struct Table<T> {
-    pages: Option<Arc<HashMap<u32, Arc<Page<T>>>>>,
+    blocks: Option<Arc<HashMap<u32, Arc<Block<T>>>>>,
     alloc: Global,
 }
 
@@ -34,16 +37,19 @@ impl<T> Model for Table<T> {
 
     ghost coded = { map.code coded_ℕ T.code };
 
-    ghost view = { λ t. held t.pages };
+    ghost view = { λ t. held t.blocks };
 
-    ghost invariant = { λ t. AllUsed t.pages };
+    ghost invariant = { λ t. AllUsed t.blocks };
 }
 
 impl<T> Table<T> {
     pub fn new(alloc: Global) -> Table<T>
         ensures { result ≡ map.empty }
     {
-        Table { pages: None, alloc }
+        Table {
+            blocks: None,
+            alloc,
+        }
     }
 
     pub fn allocator(&self) -> Global {
@@ -53,8 +59,8 @@ impl<T> Table<T> {
     pub fn read(&self, id: NodeId) -> Option<&T>
         ensures { option_copied result ≡ map.get self.now id }
     {
-        match &self.pages {
-            Some(pages) => found(pages, id.get()),
+        match &self.blocks {
+            Some(blocks) => found(blocks, id.get()),
             None => None,
         }
     }
@@ -62,16 +68,16 @@ impl<T> Table<T> {
     pub fn share(&self) -> Result<Table<T>, NoMemory>
         ensures { IfOk result (λ t. t ≡ self.now) }
     {
-        match &self.pages {
-            Some(pages) => match Arc::try_clone(pages) {
-                Ok(pages) => Ok(Table {
-                    pages: Some(pages),
+        match &self.blocks {
+            Some(blocks) => match Arc::try_clone(blocks) {
+                Ok(blocks) => Ok(Table {
+                    blocks: Some(blocks),
                     alloc: self.alloc,
                 }),
                 Err(_) => Err(NoMemory),
             },
             None => Ok(Table {
-                pages: None,
+                blocks: None,
                 alloc: self.alloc,
             }),
         }
@@ -93,14 +99,14 @@ impl<T: Drop> Table<T> {
             Ok(value) => value,
             Err(_) => return Err(NoMemory),
         };
-        match &mut self.pages {
-            Some(pages) => put_in_shared(pages, id.get(), value, self.alloc, steps),
+        match &mut self.blocks {
+            Some(blocks) => put_in_shared(blocks, id.get(), value, self.alloc, steps),
             None => {
-                let mut pages = HashMap::new(self.alloc);
-                put_in_pages(&mut pages, id.get(), value, self.alloc, steps)?;
-                match Arc::new(self.alloc, pages) {
-                    Ok(pages) => {
-                        self.pages = Some(pages);
+                let mut blocks = HashMap::new(self.alloc);
+                put_in_blocks(&mut blocks, id.get(), value, self.alloc)?;
+                match Arc::new(self.alloc, blocks) {
+                    Ok(blocks) => {
+                        self.blocks = Some(blocks);
                         Ok(())
                     }
                     Err(_) => Err(NoMemory),
@@ -115,14 +121,14 @@ impl<T: Drop> Table<T> {
         ensures err { OnErr result (self.new ≡ self.old) }
         ensures cost { steps.new ≤ steps.old + 1 }
     {
-        match &mut self.pages {
-            Some(pages) => return take_from_shared(pages, id.get(), self.alloc, steps),
+        match &mut self.blocks {
+            Some(blocks) => return take_from_shared(blocks, id.get(), self.alloc, steps),
             None => {}
         }
         Ok(())
     }
 
-    /// Takes no step. It answers want of memory where the page has other owners.
+    /// Takes no step. It answers want of memory where the table, the block or the page has other owners.
     pub fn write_own(&mut self, id: NodeId, value: T) -> Result<(), NoMemory>
         ensures ok { OnOk result (self.new ≡ map.insert self.old id value) }
         ensures err { OnErr result (self.new ≡ self.old) }
@@ -131,14 +137,14 @@ impl<T: Drop> Table<T> {
             Ok(value) => value,
             Err(_) => return Err(NoMemory),
         };
-        match &mut self.pages {
-            Some(pages) => put_in_own(pages, id.get(), value, self.alloc),
+        match &mut self.blocks {
+            Some(blocks) => put_in_own(blocks, id.get(), value, self.alloc),
             None => {
-                let mut pages = HashMap::new(self.alloc);
-                put_in_own_pages(&mut pages, id.get(), value, self.alloc)?;
-                match Arc::new(self.alloc, pages) {
-                    Ok(pages) => {
-                        self.pages = Some(pages);
+                let mut blocks = HashMap::new(self.alloc);
+                put_in_blocks(&mut blocks, id.get(), value, self.alloc)?;
+                match Arc::new(self.alloc, blocks) {
+                    Ok(blocks) => {
+                        self.blocks = Some(blocks);
                         Ok(())
                     }
                     Err(_) => Err(NoMemory),
@@ -147,310 +153,312 @@ impl<T: Drop> Table<T> {
         }
     }
 
-    /// Takes no step. It answers want of memory where the page has other owners.
+    /// Takes no step. It answers want of memory where the table, the block or the page has other owners.
     pub fn erase_own(&mut self, id: NodeId) -> Result<(), NoMemory>
         requires { IsSome (map.get self.old id) }
         ensures ok { OnOk result (self.new ≡ map.remove self.old id) }
         ensures err { OnErr result (self.new ≡ self.old) }
     {
-        match &mut self.pages {
-            Some(pages) => return take_from_own(pages, id.get()),
+        match &mut self.blocks {
+            Some(blocks) => return take_from_own(blocks, id.get()),
             None => {}
         }
         Ok(())
     }
 }
 
-/// The number of the page of an id.
-fn page_of(id: u32) -> u32
-    ensures { result ≡ id / 64 }
+fn found<T>(blocks: &HashMap<u32, Arc<Block<T>>>, id: u32) -> Option<&T>
+    ensures { option_copied result ≡ value_at blocks.now id }
 {
-    id / 64
-}
-
-/// The place of an id in its page.
-fn place_of(id: u32) -> usize
-    ensures place { result ≡ id % 64 }
-    ensures below { result < 64 }
-{
-    (id % 64) as usize
-}
-
-fn found<T>(pages: &HashMap<u32, Arc<Page<T>>>, id: u32) -> Option<&T>
-    ensures { option_copied result ≡ value_at pages.now id }
-{
-    match pages.get(&page_of(id)) {
-        Some(page) => page.get(place_of(id)),
+    match blocks.get(&block_of(id)) {
+        Some(block) => found_in(block, id),
         None => None,
     }
 }
 
-/// Puts a value at its place, or takes out what is there. A page with other owners is copied first.
-fn set_in_page<T: Drop, L: Ledger>(
-    page: &mut Arc<Page<T>>,
-    place: usize,
-    value: Option<Arc<T>>,
-    alloc: Global,
-    steps: &mut Steps<L>,
-) -> Result<(), NoMemory>
-    requires { place < 64 }
-    ensures ok { OnOk result ((j : ℕ) → slot (arc_value page.new) j ≡ (if nat_eq place j then option_map arc_value value else slot (arc_value page.old) j)) }
-    ensures used { OnOk result (used_count (arc_value page.new) + one_if_some (slot (arc_value page.old) place) ≡ used_count (arc_value page.old) + one_if_some (option_map arc_value value)) }
-    ensures err { OnErr result ((j : ℕ) → slot (arc_value page.new) j ≡ slot (arc_value page.old) j) }
-    ensures err_used { OnErr result (used_count (arc_value page.new) ≡ used_count (arc_value page.old)) }
-    ensures cost { steps.new ≤ steps.old + 1 }
+/// The number of the block of an id.
+fn block_of(id: u32) -> u32
+    ensures { result ≡ id / 64 / 64 }
 {
-    // No clause says that an `Arc` has no other owner; only `get_mut` tells.
-    if let Some(page) = Arc::get_mut(page) {
-        return page.set(place, value);
-    }
-    let mut copy = page.copy(alloc, steps)?;
-    copy.set(place, value)?;
-    match Arc::new(alloc, copy) {
-        Ok(copy) => {
-            *page = copy;
-            Ok(())
-        }
-        Err(_) => Err(NoMemory),
-    }
+    page_of(page_of(id))
 }
 
-fn put_in_pages<T: Drop, L: Ledger>(
-    pages: &mut HashMap<u32, Arc<Page<T>>>,
+/// Puts a value where table, block and page may have other owners. They are copied first then.
+fn put_in_shared<T: Drop, L: Ledger>(
+    blocks: &mut Arc<HashMap<u32, Arc<Block<T>>>>,
     id: u32,
     value: Arc<T>,
     alloc: Global,
     steps: &mut Steps<L>,
 ) -> Result<(), NoMemory>
-    requires { EachIsUsed pages.old }
-    ensures ok { OnOk result (Puts pages.old pages.new id (Some (arc_value value))) }
-    ensures err { OnErr result (IsSame pages.old pages.new) }
-    ensures used { EachIsUsed pages.new }
+    requires { EachIsUsed (arc_value blocks.old) }
+    ensures ok { OnOk result (Puts (arc_value blocks.old) (arc_value blocks.new) id (Some (arc_value value))) }
+    ensures err { OnErr result (IsSame (arc_value blocks.old) (arc_value blocks.new)) }
+    ensures used { EachIsUsed (arc_value blocks.new) }
     ensures cost { steps.new ≤ steps.old + 1 }
 {
-    if let Some(page) = pages.get_mut(&page_of(id)) {
-        return set_in_page(page, place_of(id), Some(value), alloc, steps);
-    }
-    put_in_new_page(pages, id, value, alloc)
+    make_own_path(blocks, id, Change::Put, alloc, steps)?;
+    put_in_own(blocks, id, value, alloc)
 }
 
-/// Puts a value in a page of its own, where its page isn't there.
-fn put_in_new_page<T: Drop>(
-    pages: &mut HashMap<u32, Arc<Page<T>>>,
-    id: u32,
-    value: Arc<T>,
-    alloc: Global,
-) -> Result<(), NoMemory>
-    requires new { get nat_eq pages.old (id / 64) ≡ None }
-    requires used { EachIsUsed pages.old }
-    ensures ok { OnOk result (Puts pages.old pages.new id (Some (arc_value value))) }
-    ensures err { OnErr result (IsSame pages.old pages.new) }
-    ensures used { EachIsUsed pages.new }
-{
-    let mut page = Page::new(alloc);
-    page.set(place_of(id), Some(value))?;
-    let page = match Arc::new(alloc, page) {
-        Ok(page) => page,
-        Err(_) => return Err(NoMemory),
-    };
-    match pages.insert(page_of(id), page) {
-        Ok(_) => Ok(()),
-        Err(_) => Err(NoMemory),
-    }
-}
-
-/// Takes out a value. A page goes with its last value, so that it isn't copied for that.
-fn take_from_pages<T: Drop, L: Ledger>(
-    pages: &mut HashMap<u32, Arc<Page<T>>>,
+/// Takes out a value where table, block and page may have other owners. Those of them that stay are copied first then.
+fn take_from_shared<T: Drop, L: Ledger>(
+    blocks: &mut Arc<HashMap<u32, Arc<Block<T>>>>,
     id: u32,
     alloc: Global,
     steps: &mut Steps<L>,
 ) -> Result<(), NoMemory>
-    requires there { IsSome (value_at pages.old id) }
-    requires used { EachIsUsed pages.old }
-    ensures ok { OnOk result (Puts pages.old pages.new id None) }
-    ensures err { OnErr result (IsSame pages.old pages.new) }
-    ensures used { EachIsUsed pages.new }
+    requires there { IsSome (value_at (arc_value blocks.old) id) }
+    requires used { EachIsUsed (arc_value blocks.old) }
+    ensures ok { OnOk result (Puts (arc_value blocks.old) (arc_value blocks.new) id None) }
+    ensures err { OnErr result (IsSame (arc_value blocks.old) (arc_value blocks.new)) }
+    ensures used { EachIsUsed (arc_value blocks.new) }
     ensures cost { steps.new ≤ steps.old + 1 }
 {
-    if has_single(pages, page_of(id)) {
-        let _ = pages.remove(&page_of(id));
-        return Ok(());
-    }
-    if let Some(page) = pages.get_mut(&page_of(id)) {
-        return set_in_page(page, place_of(id), None, alloc, steps);
+    make_own_path(blocks, id, Change::Take, alloc, steps)?;
+    take_from_own(blocks, id)
+}
+
+/// Leaves this as the only owner of the table, and of the block and the page of an id, so far as they are there and stay.
+fn make_own_path<T: Drop, L: Ledger>(
+    blocks: &mut Arc<HashMap<u32, Arc<Block<T>>>>,
+    id: u32,
+    change: Change,
+    alloc: Global,
+    steps: &mut Steps<L>,
+) -> Result<(), NoMemory>
+    requires { EachIsUsed (arc_value blocks.old) }
+    ensures same { IsSame (arc_value blocks.old) (arc_value blocks.new) }
+    ensures used { EachIsUsed (arc_value blocks.new) }
+    ensures cost { steps.new ≤ steps.old + 1 }
+{
+    make_own_table(blocks, alloc)?;
+    if let Some(blocks) = Arc::get_mut(blocks) {
+        return make_own_in_table(blocks, id, change, alloc, steps);
     }
     Ok(())
 }
 
-/// Whether a page is there and has one value.
-fn has_single<T>(pages: &HashMap<u32, Arc<Page<T>>>, number: u32) -> bool
-    ensures yes { result ≡ true → ForSome (get nat_eq pages.now number) (λ a. used_count (arc_value a) ≡ 1) }
-    ensures no { result ≡ false → ForSome (get nat_eq pages.now number) (λ a. used_count (arc_value a) ≢ 1) }
-{
-    match pages.get(&number) {
-        Some(page) => page.used() == 1,
-        None => false,
-    }
-}
-
-/// Puts a value where the table may have other owners. It is copied first then.
-fn put_in_shared<T: Drop, L: Ledger>(
-    pages: &mut Arc<HashMap<u32, Arc<Page<T>>>>,
+/// Leaves the table as the only owner of the block and of the page of an id, so far as they are there and stay.
+fn make_own_in_table<T: Drop, L: Ledger>(
+    blocks: &mut HashMap<u32, Arc<Block<T>>>,
     id: u32,
-    value: Arc<T>,
+    change: Change,
     alloc: Global,
     steps: &mut Steps<L>,
 ) -> Result<(), NoMemory>
-    requires { EachIsUsed (arc_value pages.old) }
-    ensures ok { OnOk result (Puts (arc_value pages.old) (arc_value pages.new) id (Some (arc_value value))) }
-    ensures err { OnErr result (IsSame (arc_value pages.old) (arc_value pages.new)) }
-    ensures used { EachIsUsed (arc_value pages.new) }
+    requires { EachIsUsed blocks.old }
+    ensures same { IsSame blocks.old blocks.new }
+    ensures used { EachIsUsed blocks.new }
     ensures cost { steps.new ≤ steps.old + 1 }
 {
-    if let Some(pages) = Arc::get_mut(pages) {
-        return put_in_pages(pages, id, value, alloc, steps);
+    if let Some(block) = blocks.get_mut(&block_of(id)) {
+        return make_own_block(block, id, change, alloc, steps);
     }
-    let mut copy = copy_of(pages)?;
-    put_in_pages(&mut copy, id, value, alloc, steps)?;
+    Ok(())
+}
+
+/// Leaves this as the only owner of the table.
+fn make_own_table<T: Drop>(
+    blocks: &mut Arc<HashMap<u32, Arc<Block<T>>>>,
+    alloc: Global,
+) -> Result<(), NoMemory>
+    requires { EachIsUsed (arc_value blocks.old) }
+    ensures same { IsSame (arc_value blocks.old) (arc_value blocks.new) }
+    ensures used { EachIsUsed (arc_value blocks.new) }
+{
+    if let Some(_) = Arc::get_mut(blocks) {
+        return Ok(());
+    }
+    let copy = copy_of(blocks)?;
     match Arc::new(alloc, copy) {
         Ok(copy) => {
-            *pages = copy;
+            *blocks = copy;
             Ok(())
         }
         Err(_) => Err(NoMemory),
     }
 }
 
-/// Takes out a value where the table may have other owners. It is copied first then.
-fn take_from_shared<T: Drop, L: Ledger>(
-    pages: &mut Arc<HashMap<u32, Arc<Page<T>>>>,
+/// Leaves this as the only owner of the block and of the page of an id, so far as they are there and stay.
+fn make_own_block<T: Drop, L: Ledger>(
+    block: &mut Arc<Block<T>>,
     id: u32,
+    change: Change,
     alloc: Global,
     steps: &mut Steps<L>,
 ) -> Result<(), NoMemory>
-    requires there { IsSome (value_at (arc_value pages.old) id) }
-    requires used { EachIsUsed (arc_value pages.old) }
-    ensures ok { OnOk result (Puts (arc_value pages.old) (arc_value pages.new) id None) }
-    ensures err { OnErr result (IsSame (arc_value pages.old) (arc_value pages.new)) }
-    ensures used { EachIsUsed (arc_value pages.new) }
+    requires { PagesAreUsed (arc_value block.old) }
+    ensures same { IsSameIn (arc_value block.old) (arc_value block.new) }
+    ensures pages { PagesAreUsed (arc_value block.new) }
+    ensures used { used_count (arc_value block.new) ≡ used_count (arc_value block.old) }
     ensures cost { steps.new ≤ steps.old + 1 }
 {
-    if let Some(pages) = Arc::get_mut(pages) {
-        return take_from_pages(pages, id, alloc, steps);
+    if matches!(change, Change::Take) && is_last(block, id) {
+        return Ok(());
     }
-    let mut copy = copy_of(pages)?;
-    take_from_pages(&mut copy, id, alloc, steps)?;
-    match Arc::new(alloc, copy) {
-        Ok(copy) => {
-            *pages = copy;
-            Ok(())
-        }
-        Err(_) => Err(NoMemory),
+    make_own(block, alloc)?;
+    if let Some(block) = Arc::get_mut(block) {
+        return make_own_in(block, id, change, alloc, steps);
     }
+    Ok(())
 }
 
-/// A table of the same pages, which have one more owner each then.
+/// A table of the same blocks, which have one more owner each then.
 fn copy_of<T: Drop>(
-    pages: &HashMap<u32, Arc<Page<T>>>,
-) -> Result<HashMap<u32, Arc<Page<T>>>, NoMemory>
-    requires { EachIsUsed pages.now }
-    ensures same { IfOk result (λ n. IsSame pages.now n) }
+    blocks: &HashMap<u32, Arc<Block<T>>>,
+) -> Result<HashMap<u32, Arc<Block<T>>>, NoMemory>
+    requires { EachIsUsed blocks.now }
+    ensures same { IfOk result (λ n. IsSame blocks.now n) }
     ensures used { IfOk result (λ n. EachIsUsed n) }
 {
-    match pages.clone() {
+    match blocks.clone() {
         Ok(copy) => Ok(copy),
         Err(_) => Err(NoMemory),
     }
 }
 
-/// Puts a value at its place in a page that has no other owner, or takes out what is there.
-fn set_in_own_page<T: Drop>(
-    page: &mut Arc<Page<T>>,
-    place: usize,
-    value: Option<Arc<T>>,
-) -> Result<(), NoMemory>
-    requires { place < 64 }
-    ensures ok { OnOk result ((j : ℕ) → slot (arc_value page.new) j ≡ (if nat_eq place j then option_map arc_value value else slot (arc_value page.old) j)) }
-    ensures used { OnOk result (used_count (arc_value page.new) + one_if_some (slot (arc_value page.old) place) ≡ used_count (arc_value page.old) + one_if_some (option_map arc_value value)) }
-    ensures err { OnErr result ((j : ℕ) → slot (arc_value page.new) j ≡ slot (arc_value page.old) j) }
-    ensures err_used { OnErr result (used_count (arc_value page.new) ≡ used_count (arc_value page.old)) }
-{
-    if let Some(page) = Arc::get_mut(page) {
-        return page.set(place, value);
-    }
-    Err(NoMemory)
-}
-
-fn put_in_own_pages<T: Drop>(
-    pages: &mut HashMap<u32, Arc<Page<T>>>,
+/// Puts a value where neither the table nor the block nor the page has another owner.
+fn put_in_own<T: Drop>(
+    blocks: &mut Arc<HashMap<u32, Arc<Block<T>>>>,
     id: u32,
     value: Arc<T>,
     alloc: Global,
 ) -> Result<(), NoMemory>
-    requires { EachIsUsed pages.old }
-    ensures ok { OnOk result (Puts pages.old pages.new id (Some (arc_value value))) }
-    ensures err { OnErr result (IsSame pages.old pages.new) }
-    ensures used { EachIsUsed pages.new }
+    requires { EachIsUsed (arc_value blocks.old) }
+    ensures ok { OnOk result (Puts (arc_value blocks.old) (arc_value blocks.new) id (Some (arc_value value))) }
+    ensures err { OnErr result (IsSame (arc_value blocks.old) (arc_value blocks.new)) }
+    ensures used { EachIsUsed (arc_value blocks.new) }
 {
-    if let Some(page) = pages.get_mut(&page_of(id)) {
-        return set_in_own_page(page, place_of(id), Some(value));
+    if let Some(blocks) = Arc::get_mut(blocks) {
+        return put_in_blocks(blocks, id, value, alloc);
     }
-    put_in_new_page(pages, id, value, alloc)
+    Err(NoMemory)
 }
 
-/// Takes out a value where no page has another owner. A page goes with its last value.
-fn take_from_own_pages<T: Drop>(
-    pages: &mut HashMap<u32, Arc<Page<T>>>,
+fn put_in_blocks<T: Drop>(
+    blocks: &mut HashMap<u32, Arc<Block<T>>>,
+    id: u32,
+    value: Arc<T>,
+    alloc: Global,
+) -> Result<(), NoMemory>
+    requires { EachIsUsed blocks.old }
+    ensures ok { OnOk result (Puts blocks.old blocks.new id (Some (arc_value value))) }
+    ensures err { OnErr result (IsSame blocks.old blocks.new) }
+    ensures used { EachIsUsed blocks.new }
+{
+    if let Some(block) = blocks.get_mut(&block_of(id)) {
+        return put_in_block(block, id, value, alloc);
+    }
+    put_in_new_block(blocks, id, value, alloc)
+}
+
+/// Puts a value where neither the block nor the page has another owner.
+fn put_in_block<T: Drop>(
+    block: &mut Arc<Block<T>>,
+    id: u32,
+    value: Arc<T>,
+    alloc: Global,
+) -> Result<(), NoMemory>
+    requires { PagesAreUsed (arc_value block.old) }
+    ensures ok { OnOk result (PutsIn (arc_value block.old) (arc_value block.new) id (Some (arc_value value))) }
+    ensures err { OnErr result (IsSameIn (arc_value block.old) (arc_value block.new)) }
+    ensures pages { PagesAreUsed (arc_value block.new) }
+    ensures used { used_count (arc_value block.old) ≤ used_count (arc_value block.new) }
+{
+    if let Some(block) = Arc::get_mut(block) {
+        return put_in(block, id, value, alloc);
+    }
+    Err(NoMemory)
+}
+
+/// Puts a value in a block of its own, where its block isn't there.
+fn put_in_new_block<T: Drop>(
+    blocks: &mut HashMap<u32, Arc<Block<T>>>,
+    id: u32,
+    value: Arc<T>,
+    alloc: Global,
+) -> Result<(), NoMemory>
+    requires new { get nat_eq blocks.old (id / 64 / 64) ≡ None }
+    requires used { EachIsUsed blocks.old }
+    ensures ok { OnOk result (Puts blocks.old blocks.new id (Some (arc_value value))) }
+    ensures err { OnErr result (IsSame blocks.old blocks.new) }
+    ensures used { EachIsUsed blocks.new }
+{
+    let mut block = Page::new(alloc);
+    put_in(&mut block, id, value, alloc)?;
+    let block = match Arc::new(alloc, block) {
+        Ok(block) => block,
+        Err(_) => return Err(NoMemory),
+    };
+    match blocks.insert(block_of(id), block) {
+        Ok(_) => Ok(()),
+        Err(_) => Err(NoMemory),
+    }
+}
+
+/// Takes out a value where neither the table nor, so far as they stay, the block and the page have another owner.
+fn take_from_own<T: Drop>(
+    blocks: &mut Arc<HashMap<u32, Arc<Block<T>>>>,
     id: u32,
 ) -> Result<(), NoMemory>
-    requires there { IsSome (value_at pages.old id) }
-    requires used { EachIsUsed pages.old }
-    ensures ok { OnOk result (Puts pages.old pages.new id None) }
-    ensures err { OnErr result (IsSame pages.old pages.new) }
-    ensures used { EachIsUsed pages.new }
+    requires there { IsSome (value_at (arc_value blocks.old) id) }
+    requires used { EachIsUsed (arc_value blocks.old) }
+    ensures ok { OnOk result (Puts (arc_value blocks.old) (arc_value blocks.new) id None) }
+    ensures err { OnErr result (IsSame (arc_value blocks.old) (arc_value blocks.new)) }
+    ensures used { EachIsUsed (arc_value blocks.new) }
 {
-    if has_single(pages, page_of(id)) {
-        let _ = pages.remove(&page_of(id));
+    if let Some(blocks) = Arc::get_mut(blocks) {
+        return take_from_blocks(blocks, id);
+    }
+    Err(NoMemory)
+}
+
+/// Takes out a value. A block goes with its last value, so that it needn't be the only owner's.
+fn take_from_blocks<T: Drop>(
+    blocks: &mut HashMap<u32, Arc<Block<T>>>,
+    id: u32,
+) -> Result<(), NoMemory>
+    requires there { IsSome (value_at blocks.old id) }
+    requires used { EachIsUsed blocks.old }
+    ensures ok { OnOk result (Puts blocks.old blocks.new id None) }
+    ensures err { OnErr result (IsSame blocks.old blocks.new) }
+    ensures used { EachIsUsed blocks.new }
+{
+    if has_last(blocks, id) {
+        let _ = blocks.remove(&block_of(id));
         return Ok(());
     }
-    if let Some(page) = pages.get_mut(&page_of(id)) {
-        return set_in_own_page(page, place_of(id), None);
+    if let Some(block) = blocks.get_mut(&block_of(id)) {
+        return take_from_block(block, id);
     }
     Ok(())
 }
 
-/// Puts a value where neither the table nor the page has another owner.
-fn put_in_own<T: Drop>(
-    pages: &mut Arc<HashMap<u32, Arc<Page<T>>>>,
-    id: u32,
-    value: Arc<T>,
-    alloc: Global,
-) -> Result<(), NoMemory>
-    requires { EachIsUsed (arc_value pages.old) }
-    ensures ok { OnOk result (Puts (arc_value pages.old) (arc_value pages.new) id (Some (arc_value value))) }
-    ensures err { OnErr result (IsSame (arc_value pages.old) (arc_value pages.new)) }
-    ensures used { EachIsUsed (arc_value pages.new) }
+/// Whether the block of an id is there and has a single value.
+fn has_last<T>(blocks: &HashMap<u32, Arc<Block<T>>>, id: u32) -> bool
+    ensures yes { result ≡ true → ForSome (get nat_eq blocks.now (id / 64 / 64)) (λ a. IsLast (arc_value a) id) }
+    ensures no { result ≡ false → ForSome (get nat_eq blocks.now (id / 64 / 64)) (λ a. IsLast (arc_value a) id → ⊥) }
 {
-    if let Some(pages) = Arc::get_mut(pages) {
-        return put_in_own_pages(pages, id, value, alloc);
+    match blocks.get(&block_of(id)) {
+        Some(block) => is_last(block, id),
+        None => false,
     }
-    Err(NoMemory)
 }
 
-/// Takes out a value where neither the table nor the page has another owner.
-fn take_from_own<T: Drop>(
-    pages: &mut Arc<HashMap<u32, Arc<Page<T>>>>,
-    id: u32,
-) -> Result<(), NoMemory>
-    requires there { IsSome (value_at (arc_value pages.old) id) }
-    requires used { EachIsUsed (arc_value pages.old) }
-    ensures ok { OnOk result (Puts (arc_value pages.old) (arc_value pages.new) id None) }
-    ensures err { OnErr result (IsSame (arc_value pages.old) (arc_value pages.new)) }
-    ensures used { EachIsUsed (arc_value pages.new) }
+/// Takes out a value where others of its block stay, and neither the block nor, if it stays, the page has another owner.
+fn take_from_block<T: Drop>(block: &mut Arc<Block<T>>, id: u32) -> Result<(), NoMemory>
+    requires there { IsSome (value_in (arc_value block.old) id) }
+    requires pages { PagesAreUsed (arc_value block.old) }
+    requires used { 0 < used_count (arc_value block.old) }
+    requires more { IsLast (arc_value block.old) id → ⊥ }
+    ensures ok { OnOk result (PutsIn (arc_value block.old) (arc_value block.new) id None) }
+    ensures err { OnErr result (IsSameIn (arc_value block.old) (arc_value block.new)) }
+    ensures pages { PagesAreUsed (arc_value block.new) }
+    ensures used { 0 < used_count (arc_value block.new) }
 {
-    if let Some(pages) = Arc::get_mut(pages) {
-        return take_from_own_pages(pages, id);
+    if let Some(block) = Arc::get_mut(block) {
+        return take_from(block, id);
     }
     Err(NoMemory)
 }

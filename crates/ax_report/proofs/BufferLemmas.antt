@@ -25,3 +25,11 @@ front_of xs ys b = ap (take (length xs)) b.whole ∙ take-append_seam xs b.more
 pub on_err : (r : Result (Unit {0}) AllocError) (xs ys ws zs : List ℕ) → ws ≡ xs ++ ys → OnErr r (Extends ws zs) → OnErr r (Extends xs zs)
 on_err (Ok u) xs ys ws zs e h = tt
 on_err (Err f) xs ys ws zs e h = begins_front xs ys zs (subst (λ vs. Extends vs zs) e h)
+
+pub extends_on : (xs ys zs : List ℕ) → Extends xs ys → Extends ys zs → Extends xs zs
+extends_on xs ys zs a b = record { more = a.more ++ b.more; whole = b.whole ∙ (ap (λ vs. vs ++ b.more) a.whole ∙ append_assoc xs a.more b.more) }
+
+-- where a call gave an error behind what was appended
+pub err_more : (r : Result (Unit {0}) AllocError) (xs ys zs : List ℕ) → Extends xs ys → Extends ys zs → OnErr r (Extends xs zs)
+err_more (Ok u) xs ys zs a b = tt
+err_more (Err f) xs ys zs a b = extends_on xs ys zs a b

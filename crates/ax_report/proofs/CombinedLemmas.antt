@@ -1,9 +1,10 @@
 -- The rows of a combined tree.
 use Rattle.std.proofs.Common.{ℕ, zero, suc, ◌+◌, ◌<◌, ◌≡◌, List, [], ◌∷◌, ◌++◌, length, take, Bor, refl, sym, ap, ◌∙◌, arith, add-one, Option, None, Some, option_map, unwrap_or, append_assoc, append-nil, flat_map}
-use Rattle.std.specs.Prelude.{codes, slice_get, option_to_list, IsSome}
+use Rattle.std.specs.Prelude.{true, codes, is_some, slice_get, option_to_list, IsSome}
 use Rattle.std.specs.List.{enumerate_from}
 use Rattle.std.specs.Option.{option_copied}
 use Rattle.std.specs.Fmt.{decimal}
+use Rattle.std.proofs.lemmas.Bool.{false≢true}
 use Rattle.ax_base.specs.declared.position.Place.{Place}
 use Rattle.ax_node.specs.Look.{look_of}
 use Rattle.ax_node.specs.declared.node.NodeData.{NodeData}
@@ -11,11 +12,12 @@ use Rattle.ax_node.specs.declared.tree_data.TreeData.{TreeData}
 use Rattle.ax_trees.specs.Nodes.{parent}
 use Rattle.ax_tree.specs.Tree.{Tree, node, data_of}
 use Rattle.ax_tree.specs.Forest.{Forest, first_tree}
-use Rattle.ax_rules.specs.Stitched.{Placed, stitched}
+use Rattle.ax_rules.specs.Stitched.{Placed, stitched, places}
 use Rattle.ax_rules.specs.Combined.{combined_data, combined_node, numbered_look}
 use Rattle.ax_run_rules.specs.Dump.{tree_line, look_text}
 use Rattle.ax_run_rules.specs.CombineText.{node_line, placed_text, combined_text}
-use Rattle.ax_report.specs.Combining.{IsCombined, place_of_number, row_head, row_text}
+use Rattle.ax_report.specs.Buffers.{Extends}
+use Rattle.ax_report.specs.Combining.{AreNodes, IsCombined, place_of_number, row_head, row_text}
 
 -- ---- the rows, one after the other
 
@@ -58,46 +60,59 @@ placed_there [] k h = absurd (omega arith)
 placed_there (s ∷ l) zero h = (s, refl)
 placed_there (s ∷ l) (suc k) h = placed_there l k (omega arith)
 
--- the place of that number, and its node
-pub place_is : (l : List Placed) (k : ℕ) → k < length l → (p : Place) × (place_of_number l (k + 1) ≡ Some p)
-place_is l k h =
-    let s = placed_there l k h in
-    (s.0.place, ap (place_of_number l) (add-one k) ∙ ap (option_map (λ (t : Placed). t.place)) s.1)
+got_place : (l : List Placed) (k : ℕ) → slice_get (places l) k ≡ option_map (λ (s : Placed). s.place) (slice_get l k)
+got_place [] k = refl
+got_place (s ∷ l) zero = refl
+got_place (s ∷ l) (suc k) = got_place l k
 
-pub node_is : (f : Forest) (m : Tree) (k : ℕ) → IsCombined f m → k < length (stitched f) → (d : NodeData) × (node m (k + 1) ≡ Some d)
-node_is f m k c h = let s = placed_there (stitched f) k h in (data_of (combined_node (stitched f) (k + 1, s.0)), c.nodes k s.0 s.1)
+length_places : (l : List Placed) → length (places l) ≡ length l
+length_places [] = refl
+length_places (s ∷ l) = ap suc (length_places l)
+
+-- the places are as many as the list has elements
+pub as_many : (f : Forest) (ps : List Place) (m : Tree) → IsCombined f ps m → length ps ≡ length (stitched f)
+as_many f ps m c = ap length c.listed ∙ length_places (stitched f)
 
 some_same : {A : Type 0} (x y : A) → Some x ≡ Some y → x ≡ y
 some_same x y e = cc
 
-row_of : (f : Forest) (m : Tree) (k : ℕ) (s : Placed) → IsCombined f m → slice_get (stitched f) k ≡ Some s
+row_of : (f : Forest) (ps : List Place) (m : Tree) (k : ℕ) (s : Placed) → IsCombined f ps m → slice_get (stitched f) k ≡ Some s
     → row_text (stitched f) k ≡ row_head (k + 1) (parent m.trees (k + 1)) s.place (data_of (combined_node (stitched f) (k + 1, s))).role ++ (look_text (look_of (data_of (combined_node (stitched f) (k + 1, s)))) ++ codes "\n")
 unfolding row_text row_head node_line combined_node numbered_look
-row_of f m k s c e = rw (e, c.parents k s e) (simp append_assoc)
+row_of f ps m k s c e = rw (e, c.parents k s e) (simp append_assoc)
 
-pub row_done : (f : Forest) (m : Tree) (k i : ℕ) (p : Place) (d : NodeData) (u : Option ℕ) (out one two now : List ℕ) → IsCombined f m → k < length (stitched f) → i ≡ k + 1
-    → Some p ≡ place_of_number (stitched f) i → Some d ≡ node m i → u ≡ parent m.trees i → one ≡ out ++ row_head i u p d.role → two ≡ one ++ look_text (look_of d)
-    → now ≡ two ++ codes "\n" → now ≡ out ++ row_text (stitched f) k
-row_done f m k i p d u out one two now c h z a b v q r t =
-    let s = placed_there (stitched f) k h in
-    let place : p ≡ s.0.place = some_same p s.0.place (a ∙ (ap (place_of_number (stitched f)) (z ∙ add-one k) ∙ ap (option_map (λ (t : Placed). t.place)) s.1)) in
+-- a row by its parts
+row_joined : (i j : ℕ) (u v : Option ℕ) (p q : Place) (d e : NodeData) (out one two now row : List ℕ) → i ≡ j → u ≡ v → p ≡ q → d ≡ e → one ≡ out ++ row_head i u p d.role → two ≡ one ++ look_text (look_of d)
+    → now ≡ two ++ codes "\n" → row ≡ row_head j v q e.role ++ (look_text (look_of e) ++ codes "\n") → now ≡ out ++ row
+row_joined i j u v p q d e out one two now row h k l m a b c r = rw (c, b, a, r, h, k, l, m) (simp append_assoc)
+
+pub row_grown : (out one two now a b c : List ℕ) → one ≡ out ++ a → two ≡ one ++ b → now ≡ two ++ c → Extends out now
+row_grown out one two now a b c h k l = record { more = a ++ (b ++ c); whole = rw (l, k, h) (simp append_assoc) }
+
+pub row_done : (f : Forest) (ps : List Place) (m : Tree) (k i : ℕ) (p : Place) (d : NodeData) (u : Option ℕ) (out one two now : List ℕ) → k < length ps → i ≡ k + 1 → Some p ≡ place_of_number ps i → Some d ≡ node m i
+    → u ≡ parent m.trees i → one ≡ out ++ row_head i u p d.role → two ≡ one ++ look_text (look_of d) → now ≡ two ++ codes "\n" → IsCombined f ps m → now ≡ out ++ row_text (stitched f) k
+row_done f ps m k i p d u out one two now h z a b v q r t c =
+    let n = as_many f ps m c in
+    let s = placed_there (stitched f) k (omega (arith, h, n)) in
+    let got : slice_get ps k ≡ Some s.0.place = ap (λ l. slice_get l k) c.listed ∙ (got_place (stitched f) k ∙ ap (option_map (λ (t : Placed). t.place)) s.1) in
+    let place : p ≡ s.0.place = some_same p s.0.place (a ∙ (ap (place_of_number ps) (z ∙ add-one k) ∙ got)) in
     let same : d ≡ data_of (combined_node (stitched f) (k + 1, s.0)) = some_same d _ (b ∙ (ap (node m) z ∙ c.nodes k s.0 s.1)) in
     let above : u ≡ parent m.trees (k + 1) = v ∙ ap (parent m.trees) z in
-    rw (t, r, q, row_of f m k s.0 c s.1, z, above, place, same) (simp append_assoc)
+    row_joined i (k + 1) u (parent m.trees (k + 1)) p s.0.place d (data_of (combined_node (stitched f) (k + 1, s.0))) out one two now (row_text (stitched f) k) z above place same q r t (row_of f ps m k s.0 c s.1)
 
-copied_some : (o : Option (Bor NodeData)) (d : NodeData) → option_copied o ≡ Some d → IsSome o
-copied_some None d e = absurd (cc)
-copied_some (Some r) d e = refl
+copied_some : (o : Option (Bor NodeData)) (n : Option NodeData) → option_copied o ≡ n → is_some n ≡ true → IsSome o
+copied_some None n e h = absurd (false≢true (ap is_some e ∙ h))
+copied_some (Some r) n e h = refl
 
-pub node_there : (f : Forest) (m : Tree) (k i : ℕ) (o : Option (Bor NodeData)) → IsCombined f m → k < length (stitched f) → i ≡ k + 1 → option_copied o ≡ node m i → IsSome o
-node_there f m k i o c h z e = let d = node_is f m k c h in copied_some o d.0 (e ∙ (ap (node m) z ∙ d.1))
+pub node_there : (ps : List Place) (m : Tree) (k i : ℕ) (o : Option (Bor NodeData)) → AreNodes ps m → k < length ps → i ≡ k + 1 → option_copied o ≡ node m i → IsSome o
+node_there ps m k i o c h z e = copied_some o (node m (k + 1)) (e ∙ ap (node m) z) (c.nodes k h)
 
 -- ---- the whole text
 
-pub combined_none : (f : Forest) (m : Tree) → IsCombined f m → length (stitched f) ≡ 0
+pub combined_none : (f : Forest) (ps : List Place) (m : Tree) → IsCombined f ps m → length (stitched f) ≡ 0
     → flat_map (combined_text f) (option_to_list (first_tree f)) ≡ codes "tree " ++ (decimal m.about.tree ++ codes " empty\n")
 unfolding combined_text
-combined_none f m c h =
+combined_none f ps m c h =
     ap (λ o. flat_map (λ t. placed_text t (combined_data f t) (stitched f)) (option_to_list o)) c.first
     ∙ (append-nil (placed_text m.about.tree (combined_data f m.about.tree) (stitched f)) ∙ go (stitched f) h)
   where
@@ -105,10 +120,10 @@ combined_none f m c h =
     go [] e = refl
     go (s ∷ l) e = absurd (omega (arith, e))
 
-pub combined_some : (f : Forest) (m : Tree) → IsCombined f m → 0 < length (stitched f)
+pub combined_some : (f : Forest) (ps : List Place) (m : Tree) → IsCombined f ps m → 0 < length (stitched f)
     → flat_map (combined_text f) (option_to_list (first_tree f)) ≡ tree_line m.about ++ flat_map (node_line (stitched f)) (enumerate_from 1 (stitched f))
 unfolding combined_text
-combined_some f m c h =
+combined_some f ps m c h =
     ap (λ o. flat_map (λ t. placed_text t (combined_data f t) (stitched f)) (option_to_list o)) c.first
     ∙ (append-nil (placed_text m.about.tree (combined_data f m.about.tree) (stitched f))
     ∙ (go (stitched f) h ∙ ap (λ d. tree_line d ++ flat_map (node_line (stitched f)) (enumerate_from 1 (stitched f))) (sym c.about)))
@@ -117,14 +132,16 @@ combined_some f m c h =
     go [] e = absurd (omega (arith, e))
     go (s ∷ l) e = refl
 
-pub all_rows : (f : Forest) (m : Tree) (about : TreeData) (out one now : List ℕ) → IsCombined f m → 0 < length (stitched f) → about ≡ m.about → one ≡ out ++ tree_line about
-    → now ≡ one ++ flat_map (node_line (stitched f)) (enumerate_from 1 (stitched f)) → now ≡ out ++ flat_map (combined_text f) (option_to_list (first_tree f))
-all_rows f m about out one now c h a p q =
+pub all_rows : (f : Forest) (ps : List Place) (m : Tree) (about : TreeData) (out one now : List ℕ) → 0 < length ps → about ≡ m.about → one ≡ out ++ tree_line about
+    → now ≡ one ++ flat_map (node_line (stitched f)) (enumerate_from 1 (stitched f)) → IsCombined f ps m → now ≡ out ++ flat_map (combined_text f) (option_to_list (first_tree f))
+all_rows f ps m about out one now h a p q c =
+    let n = as_many f ps m c in
     q ∙ (ap (λ xs. xs ++ flat_map (node_line (stitched f)) (enumerate_from 1 (stitched f))) (p ∙ ap (λ x. out ++ tree_line x) a)
-    ∙ (append_assoc out (tree_line m.about) (flat_map (node_line (stitched f)) (enumerate_from 1 (stitched f))) ∙ ap (λ xs. out ++ xs) (sym (combined_some f m c h))))
+    ∙ (append_assoc out (tree_line m.about) (flat_map (node_line (stitched f)) (enumerate_from 1 (stitched f))) ∙ ap (λ xs. out ++ xs) (sym (combined_some f ps m c (omega (arith, h, n))))))
 
-pub no_rows : (f : Forest) (m : Tree) (t : ℕ) (about : TreeData) (text out now : List ℕ) → IsCombined f m → length (stitched f) ≡ 0 → about ≡ m.about → t ≡ about.tree
-    → text ≡ codes "tree " ++ (decimal t ++ codes " empty\n") → now ≡ out ++ text → now ≡ out ++ flat_map (combined_text f) (option_to_list (first_tree f))
-no_rows f m t about text out now c h a e p q =
+pub no_rows : (f : Forest) (ps : List Place) (m : Tree) (t : ℕ) (about : TreeData) (text out now : List ℕ) → length ps ≡ 0 → about ≡ m.about → t ≡ about.tree
+    → text ≡ codes "tree " ++ (decimal t ++ codes " empty\n") → now ≡ out ++ text → IsCombined f ps m → now ≡ out ++ flat_map (combined_text f) (option_to_list (first_tree f))
+no_rows f ps m t about text out now h a e p q c =
+    let n = as_many f ps m c in
     let id : t ≡ m.about.tree = e ∙ ap (λ (d : TreeData). d.tree) a in
-    q ∙ ap (λ xs. out ++ xs) (p ∙ (ap (λ i. codes "tree " ++ (decimal i ++ codes " empty\n")) id ∙ sym (combined_none f m c h)))
+    q ∙ ap (λ xs. out ++ xs) (p ∙ (ap (λ i. codes "tree " ++ (decimal i ++ codes " empty\n")) id ∙ sym (combined_none f ps m c (sym n ∙ h))))

@@ -1,5 +1,5 @@
 -- A combined tree as it is printed: node k is the k-th place of the joined list.
-use Rattle.std.specs.Prelude.{ℕ, zero, suc, ◌+◌, ◌<◌, ◌^◌, ◌≡◌, List, [], codes, length, slice_get, Option, Some, None, option_map, option_and_then, unwrap_or}
+use Rattle.std.specs.Prelude.{ℕ, zero, suc, ◌+◌, ◌<◌, ◌^◌, ◌≡◌, true, is_some, List, [], codes, length, slice_get, Option, Some, None, option_map, option_and_then, unwrap_or}
 use Rattle.std.specs.Fmt.{decimal}
 use Rattle.ax_base.specs.declared.position.Place.{Place}
 use Rattle.ax_trees.specs.Nodes.{parent}
@@ -12,15 +12,20 @@ use Rattle.ax_run_rules.specs.ReplyText.{role_text}
 use Rattle.ax_run_rules.specs.CombineText.{node_line}
 
 -- the place of a number, from 1
-abbrev pub place_of_number : List Placed → ℕ → Option Place
-place_of_number l zero = None
-place_of_number l (suc k) = option_map (λ (s : Placed). s.place) (slice_get l k)
+abbrev pub place_of_number : List Place → ℕ → Option Place
+place_of_number ps zero = None
+place_of_number ps (suc k) = slice_get ps k
 
--- the tree m is the combined tree of the forest f, whose places are few enough to have numbers
-pub record IsCombined (f : Forest) (m : Tree) : Type 0 where
+-- the places are few enough to have numbers, and each number is a node's
+pub record AreNodes (ps : List Place) (m : Tree) : Type 0 where
+  pub few : length ps < 2 ^ 31
+  pub nodes : (k : ℕ) → k < length ps → is_some (node m (k + 1)) ≡ true
+
+-- the tree m with these places is the combined tree of the forest f
+pub record IsCombined (f : Forest) (ps : List Place) (m : Tree) : Type 0 where
   pub first : first_tree f ≡ Some m.about.tree
   pub about : m.about ≡ combined_data f m.about.tree
-  pub few : length (stitched f) < 2 ^ 31
+  pub listed : ps ≡ places (stitched f)
   pub nodes : (k : ℕ) (s : Placed) → slice_get (stitched f) k ≡ Some s → node m (k + 1) ≡ Some (data_of (combined_node (stitched f) (k + 1, s)))
   pub parents : (k : ℕ) (s : Placed) → slice_get (stitched f) k ≡ Some s → parent m.trees (k + 1) ≡ option_and_then (number_of (places (stitched f))) (parent_of s)
 

@@ -5,7 +5,7 @@ ghost use Rattle.ax_tree.specs.Forest.{Forest, first_tree};
 ghost use Rattle.ax_rules.specs.Stitched.{stitched};
 ghost use Rattle.ax_run_rules.specs.CombineText.{node_line, combined_text};
 ghost use Rattle.ax_report.specs.Buffers.{Extends};
-ghost use Rattle.ax_report.specs.Combining.{IsCombined, place_of_number, row_head, row_text};
+ghost use Rattle.ax_report.specs.Combining.{AreNodes, IsCombined, place_of_number, row_head, row_text};
 
 use crate::Bytes;
 use crate::node::{put_look, put_tree_line};
@@ -16,20 +16,23 @@ use ax_base::{NodeId, Place};
 use ax_tree::TreeView;
 use std::alloc::{AllocError, Global};
 
-/// A combined tree: all places of a forest that are shown, numbered from 1 in the order of the joined list. Node k of the
-/// tree is the k-th place, and the tree data are the first tree's.
+/// A combined tree: the places of a forest that are shown, numbered from 1 in the order of the joined list. Node k of the
+/// tree is the k-th place.
 pub trait CombinedView: TreeView {
-    /// The forest.
-    ghost forest: { Self → Forest };
+    ghost use Rattle.std.specs.Prelude.{List};
+    ghost use Rattle.ax_base.specs.declared.position.Place.{Place as Spot};
 
-    /// How many places there are.
+    /// The places, in the order of their numbers.
+    ghost places: { Self → List Spot };
+
+    /// How many places there are. Each number up to it is a node's.
     fn place_count(&self) -> usize
-        ensures count { result ≡ length (stitched (forest self.now)) }
-        ensures combined { IsCombined (forest self.now) (Self.tree self.now) };
+        ensures count { result ≡ length (places self.now) }
+        ensures numbered { AreNodes (places self.now) (Self.tree self.now) };
 
     /// The place of a number, and none above the last.
     fn place(&self, id: NodeId) -> Option<Place>
-        ensures { result ≡ place_of_number (stitched (forest self.now)) id };
+        ensures { result ≡ place_of_number (places self.now) id };
 }
 
 /// The number of the place at an index.
@@ -57,16 +60,17 @@ fn row_head(
     format!(in alloc; "{number} under {under} from {from} {role}")
 }
 
-/// The line of the place at this index.
+/// The line of the place at this index, of whichever forest it is the combined tree.
 fn put_row<C: CombinedView>(
     alloc: Global,
     view: &C,
     at: usize,
     out: &mut Bytes,
 ) -> Result<(), AllocError>
-    requires there { at < length (stitched (C.forest view.now)) }
-    requires combined { IsCombined (C.forest view.now) (C.TreeView.tree view.now) }
-    ensures ok { OnOk result (out.new.items ≡ out.old.items ++ row_text (stitched (C.forest view.now)) at) }
+    requires there { at < length (C.places view.now) }
+    requires numbered { AreNodes (C.places view.now) (C.TreeView.tree view.now) }
+    ensures ok { OnOk result ((f : Forest) → IsCombined f (C.places view.now) (C.TreeView.tree view.now) → out.new.items ≡ out.old.items ++ row_text (stitched f) at) }
+    ensures grown { OnOk result (Extends out.old.items out.new.items) }
     ensures err { OnErr result (Extends out.old.items out.new.items) }
 {
     let id = number_at(at);
@@ -85,9 +89,9 @@ fn put_rows<C: CombinedView>(
     count: usize,
     out: &mut Bytes,
 ) -> Result<(), AllocError>
-    requires all { count ≡ length (stitched (C.forest view.now)) }
-    requires combined { IsCombined (C.forest view.now) (C.TreeView.tree view.now) }
-    ensures ok { OnOk result (out.new.items ≡ out.old.items ++ flat_map (node_line (stitched (C.forest view.now))) (enumerate_from 1 (stitched (C.forest view.now)))) }
+    requires all { count ≡ length (C.places view.now) }
+    requires numbered { AreNodes (C.places view.now) (C.TreeView.tree view.now) }
+    ensures ok { OnOk result ((f : Forest) → IsCombined f (C.places view.now) (C.TreeView.tree view.now) → out.new.items ≡ out.old.items ++ flat_map (node_line (stitched f)) (enumerate_from 1 (stitched f))) }
     ensures err { OnErr result (Extends out.old.items out.new.items) }
 {
     for at in 0..count {
@@ -101,7 +105,7 @@ pub(crate) fn put_combined<C: CombinedView>(
     view: &C,
     out: &mut Bytes,
 ) -> Result<(), AllocError>
-    ensures ok { OnOk result (out.new.items ≡ out.old.items ++ flat_map (combined_text (C.forest view.now)) (option_to_list (first_tree (C.forest view.now)))) }
+    ensures ok { OnOk result ((f : Forest) → IsCombined f (C.places view.now) (C.TreeView.tree view.now) → out.new.items ≡ out.old.items ++ flat_map (combined_text f) (option_to_list (first_tree f))) }
     ensures err { OnErr result (Extends out.old.items out.new.items) }
 {
     let count = view.place_count();

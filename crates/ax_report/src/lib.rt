@@ -16,11 +16,12 @@ mod results;
 
 ghost use Rattle.std.specs.Prelude.{◌≡◌, ◌++◌, OnOk, OnErr, IsOk, IsErr, take, option_to_list};
 ghost use Rattle.std.specs.List.{flat_map};
-ghost use Rattle.ax_tree.specs.Forest.{first_tree};
+ghost use Rattle.ax_tree.specs.Forest.{Forest, first_tree};
 ghost use Rattle.ax_run_rules.specs.LineText.{line_text};
 ghost use Rattle.ax_run_rules.specs.CombineText.{combined_text};
 ghost use Rattle.ax_run_rules.specs.ReplayText.{order_text};
 ghost use Rattle.ax_run_rules.specs.Dump.{dump_text};
+ghost use Rattle.ax_report.specs.Combining.{IsCombined};
 ghost use Rattle.ax_report.specs.Walks.{standing_text, AreTheTrees};
 
 use ax_ask::{Items, Line};
@@ -81,9 +82,10 @@ pub fn order_text(o: &Items, out: &mut Bytes) -> Result<(), NoMemory>
     ended(out, before, done)
 }
 
-/// Appends the combined tree: the line of its tree data, and one for each place in the order of the joined list.
+/// Appends the combined tree: the line of its tree data, and one for each place in the order of the joined list. What is
+/// appended is the combined text of each forest of which it is the combined tree.
 pub fn combined_text<C: CombinedView>(c: &C, out: &mut Bytes) -> Result<(), NoMemory>
-    ensures ok { OnOk result (out.new.items ≡ out.old.items ++ flat_map (combined_text (C.forest c.now)) (option_to_list (first_tree (C.forest c.now)))) }
+    ensures ok { OnOk result ((f : Forest) → IsCombined f (C.places c.now) (C.TreeView.tree c.now) → out.new.items ≡ out.old.items ++ flat_map (combined_text f) (option_to_list (first_tree f))) }
     ensures err { OnErr result (out.new.items ≡ out.old.items) }
 {
     let alloc = *out.allocator();

@@ -1,8 +1,8 @@
 -- What each further line and each further tree adds to the counts of `gen`.
-use Rattle.std.proofs.Common.{ℕ, ◌≡◌, ◌+◌, ◌<◌, ◌==◌, Bool, true, false, ◌||◌, List, [], ◌∷◌, ◌++◌, length, map, take, get_or, refl, sym, ap, ap₂, subst, ◌∙◌, arith, flat_map, length-append, zero-add}
+use Rattle.std.proofs.Common.{ℕ, ◌≡◌, ◌+◌, ◌<◌, ◌==◌, Bool, true, false, ◌||◌, List, [], ◌∷◌, ◌++◌, length, map, take, get_or, refl, sym, ap, ap₂, subst, ◌∙◌, arith, append_assoc, flat_map, length-append, zero-add}
 use Rattle.std.specs.Prelude.{sum_by}
 use Rattle.std.proofs.lemmas.Grind.{flat_map-append}
-use Rattle.std.proofs.lemmas.List.{take_more}
+use Rattle.std.proofs.lemmas.List.{append-nil}
 use Rattle.std.proofs.lemmas.List.Sums.{sum_by-append, sum_by-cons, sum_by_more}
 use Rattle.ax_tree.specs.declared.verdict.Event.{Event}
 use Rattle.ax_base.specs.declared.pass.PassNo.{PassNo}
@@ -21,6 +21,7 @@ use Rattle.ax_ask.specs.declared.line.MadeNote.{MadeNote}
 use Rattle.ax_ask.specs.declared.line.PassNote.{PassNote}
 use Rattle.ax_ask.specs.declared.line.UpdateNote.{UpdateNote}
 use Rattle.ax_ask.specs.declared.line.PassNote.TheVariants.{Made, Nothing}
+use Rattle.ax_core.specs.Hearing.{all_heard}
 use Rattle.ax_top.specs.declared.making.Counts.{Counts}
 use Rattle.ax_top.specs.Gen.{packet_in, receipt_in, packets, listed_in, receipts, nodes_in, nodes_of}
 use Rattle.ax_top.specs.Counting.{counts_of, plus}
@@ -46,9 +47,15 @@ pub no_counts : counts_of [] ≡ counts 0 0 0 0
 unfolding counts_of packets receipts
 no_counts = refl
 
-pub counts_next : (ls : List Line) (k : ℕ) (l : Line) (c s : Counts) → k < length ls → l ≡ get_or ls k l → c ≡ counts_of (take k ls) → s ≡ plus c (counts_of (l ∷ [])) → s ≡ counts_of (take (k + 1) ls)
-counts_next ls k l c s low is h e =
-    e ∙ (ap (λ (x : Counts). plus x (counts_of (l ∷ []))) h ∙ (sym (counts_more (take k ls) (l ∷ [])) ∙ ap counts_of (sym (take_more ls k l low ∙ ap (λ (x : Line). take k ls ++ x ∷ []) (sym is)))))
+heard_more : (ks ls : List Line) → all_heard (λ (c : Counts) (l : Line). plus c (counts_of (l ∷ []))) (counts_of ks) ls ≡ counts_of (ks ++ ls)
+heard_more ks [] = ap counts_of (sym (append-nil ks))
+heard_more ks (l ∷ ls) =
+    ap (λ (c : Counts). all_heard (λ (d : Counts) (k : Line). plus d (counts_of (k ∷ []))) c ls) (sym (counts_more ks (l ∷ [])))
+    ∙ (heard_more (ks ++ l ∷ []) ls ∙ ap counts_of (append_assoc ks (l ∷ []) ls))
+
+-- counts that heard lines, of which none was told before
+pub counts_heard : (c d : Counts) (ls : List Line) → c ≡ counts_of [] → d ≡ all_heard (λ (x : Counts) (l : Line). plus x (counts_of (l ∷ []))) c ls → d ≡ counts_of ls
+counts_heard c d ls none told = told ∙ (ap (λ (x : Counts). all_heard (λ (y : Counts) (l : Line). plus y (counts_of (l ∷ []))) x ls) none ∙ heard_more [] ls)
 
 -- ---- the counts of one line
 

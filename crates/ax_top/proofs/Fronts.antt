@@ -36,9 +36,9 @@ short_at bs s false e is = not_below _ _ e
 pub script_is_short : (bs : List ℕ) (s : Script) → script_of bs ≡ Ok s → length bs ≤ 67108864
 script_is_short bs s is = short_at bs s (nat_lt 67108864 (length bs)) refl is
 
-replayed_at : (b text : List ℕ) (rest held now : Option (List ℕ)) (r : Result Script ScriptErr) → script_of b ≡ r → rest ≡ Some (drop 67108865 b) → true ≡ is_ok r → text_of r ≡ Some text → Appends held now text
-    → IsReplayed b rest held now
-replayed_at b text rest held now (Ok s) is end ok t h = record {
+replayed_at : (g : Script → Option (List ℕ)) (b text : List ℕ) (rest held now : Option (List ℕ)) (r : Result Script ScriptErr) → script_of b ≡ r → rest ≡ Some (drop 67108865 b) → true ≡ is_ok r → text_of g r ≡ Some text → Appends held now text
+    → IsReplayed g b rest held now
+replayed_at g b text rest held now (Ok s) is end ok t h = record {
   script = s;
   read = is;
   end = end ∙ ap Some (drop_all 67108865 b (let short : length b ≤ 67108864 = script_is_short b s is in omega arith));
@@ -46,33 +46,33 @@ replayed_at b text rest held now (Ok s) is end ok t h = record {
   ran = t;
   written = h;
 }
-replayed_at b text rest held now (Err r) is end ok t h = cc
+replayed_at g b text rest held now (Err r) is end ok t h = cc
 
-pub replayed : (left rest held now : Option (List ℕ)) (bytes text : List ℕ) → IfSome left (λ l. bytes ≡ take 67108865 l) → IfSome left (λ l. rest ≡ Some (drop 67108865 l))
-    → text_of (script_of bytes) ≡ Some text → true ≡ is_ok (script_of bytes) → Appends held now text → Replayed left rest held now
-replayed None rest held now bytes text whole end t ok h = tt
-replayed (Some b) rest held now bytes text whole end t ok h =
+pub replayed : (g : Script → Option (List ℕ)) (left rest held now : Option (List ℕ)) (bytes text : List ℕ) → IfSome left (λ l. bytes ≡ take 67108865 l) → IfSome left (λ l. rest ≡ Some (drop 67108865 l))
+    → text_of g (script_of bytes) ≡ Some text → true ≡ is_ok (script_of bytes) → Appends held now text → Replayed g left rest held now
+replayed g None rest held now bytes text whole end t ok h = tt
+replayed g (Some b) rest held now bytes text whole end t ok h =
     let same : script_of bytes ≡ script_of b = ap script_of whole ∙ same_of_front b in
-    replayed_at b text rest held now (script_of b) refl end (ok ∙ ap is_ok same) (ap text_of (sym same) ∙ t) h
+    replayed_at g b text rest held now (script_of b) refl end (ok ∙ ap is_ok same) (ap (text_of g) (sym same) ∙ t) h
 
-refused_at : (b text : List ℕ) (held now : Option (List ℕ)) (r : Result Script ScriptErr) → script_of b ≡ r → false ≡ is_ok r → text_of r ≡ Some text → Appends held now text
+refused_at : (g : Script → Option (List ℕ)) (b text : List ℕ) (held now : Option (List ℕ)) (r : Result Script ScriptErr) → script_of b ≡ r → false ≡ is_ok r → text_of g r ≡ Some text → Appends held now text
     → IsRefused b held now
-refused_at b text held now (Ok s) is ok t h = cc
-refused_at b text held now (Err e) is ok t h = record { error = e; read = is; written = rw (the_same (script_error_text e) text t) h }
+refused_at g b text held now (Ok s) is ok t h = cc
+refused_at g b text held now (Err e) is ok t h = record { error = e; read = is; written = rw (the_same (script_error_text e) text t) h }
   where
     the_same : (xs ys : List ℕ) → Some xs ≡ Some ys → xs ≡ ys
     the_same xs ys is = cc
 
-pub refuses : (left held now : Option (List ℕ)) (bytes text : List ℕ) → IfSome left (λ l. bytes ≡ take 67108865 l)
-    → text_of (script_of bytes) ≡ Some text → false ≡ is_ok (script_of bytes) → Appends held now text → TellsRefusal left held now
-refuses None held now bytes text whole t ok h = tt
-refuses (Some b) held now bytes text whole t ok h =
+pub refuses : (g : Script → Option (List ℕ)) (left held now : Option (List ℕ)) (bytes text : List ℕ) → IfSome left (λ l. bytes ≡ take 67108865 l)
+    → text_of g (script_of bytes) ≡ Some text → false ≡ is_ok (script_of bytes) → Appends held now text → TellsRefusal left held now
+refuses g None held now bytes text whole t ok h = tt
+refuses g (Some b) held now bytes text whole t ok h =
     let same : script_of bytes ≡ script_of b = ap script_of whole ∙ same_of_front b in
-    refused_at b text held now (script_of b) refl (ok ∙ ap is_ok same) (ap text_of (sym same) ∙ t) h
+    refused_at g b text held now (script_of b) refl (ok ∙ ap is_ok same) (ap (text_of g) (sym same) ∙ t) h
 
-pub writes_front : (left held now : Option (List ℕ)) (bytes text : List ℕ) → IfSome left (λ l. bytes ≡ take 67108865 l)
-    → text_of (script_of bytes) ≡ Some text → AppendsFront held now text → IfSome left (λ b. WritesFront (text_of (script_of b)) held now)
-writes_front None held now bytes text whole t h = tt
-writes_front (Some b) held now bytes text whole t h =
+pub writes_front : (g : Script → Option (List ℕ)) (left held now : Option (List ℕ)) (bytes text : List ℕ) → IfSome left (λ l. bytes ≡ take 67108865 l)
+    → text_of g (script_of bytes) ≡ Some text → AppendsFront held now text → IfSome left (λ b. WritesFront (text_of g (script_of b)) held now)
+writes_front g None held now bytes text whole t h = tt
+writes_front g (Some b) held now bytes text whole t h =
     let same : script_of bytes ≡ script_of b = ap script_of whole ∙ same_of_front b in
-    record { text = text; is = ap text_of (sym same) ∙ t; front = h }
+    record { text = text; is = ap (text_of g) (sym same) ∙ t; front = h }

@@ -2,7 +2,8 @@ pub mod Answers
 pub mod Behind
 pub mod Commands
 pub mod Counting
-pub mod Ending
+pub mod Finales
+pub mod Endings
 pub mod Fronts
 pub mod Made
 pub mod Runs

@@ -9,7 +9,7 @@ use Rattle.ax_ask.specs.declared.op.Item.{Item}
 use Rattle.ax_ask.specs.declared.line.Line.{Line}
 use Rattle.ax_run_rules.specs.States.{State, Run, begin, start, without_lines}
 use Rattle.ax_run_rules.specs.Steps.{step, run}
-use Rattle.ax_run_rules.specs.Finale.{finale_of}
+use Rattle.ax_run_rules.specs.Finale.{finale_of, finished}
 use Rattle.ax_run_rules.specs.LineText.{line_text, lines_text}
 use Rattle.ax_run_rules.specs.ReplayText.{replay_text, ended_text}
 use Rattle.ax_run_rules.proofs.RunAppends.{run-append}
@@ -21,7 +21,7 @@ use Rattle.ax_core.specs.Items.{Steps, IsRefused}
 use Rattle.ax_core.specs.Standing.{at, IsWhole}
 use Rattle.ax_core.specs.Starting.{CanRun, script_in}
 use Rattle.ax_top.specs.Runs.{breaks_by, missing_item, replay_of}
-use Rattle.ax_top.specs.Running.{AreDone, IsMissing, IsEnded, Ordered}
+use Rattle.ax_top.specs.Running.{AreDone, IsMissing, IsEnded, IsRun, Ordered}
 use Rattle.ax_top.proofs.Behind.{behind, run_behind}
 
 -- ---- one more item
@@ -112,12 +112,18 @@ ran_missing s from i e m =
     (λ k low. subst (λ (x : List Item). is_none (run x (begin (script_in s))) ≡ false) (front_of_front k m.front s.order (let n = m.number in omega (arith, n, low))) (fronts_there (take m.front s.order) (begin (script_in s)) k there))
     (ap is_none missing) (length s.order) 1 (let n = m.number in omega (arith, n)) (let n = m.number in let a = m.among in omega (arith, n, a))
 
-pub ran_whole : (s : Script) (from mid : State) (text whole : List ℕ) → from ≡ start (script_in s) → AreDone from s.order mid [] text → IsEnded mid text whole → replay_of s ≡ Some whole
-unfolding replay_of replay_text
-ran_whole s from mid text whole e d f =
+pub ran_whole : (s : Script) (from mid new : State) (text whole : List ℕ) → from ≡ start (script_in s) → AreDone from s.order mid [] text → IsEnded mid new text whole → IsRun s new whole
+unfolding replay_of replay_text finished
+ran_whole s from mid new text whole e d f =
     let ran : run s.order (begin (script_in s)) ≡ Some d.end = ap (run s.order) (sym (begun s from e)) ∙ d.ran in
     let ends : finale_of (without_lines d.end) ≡ Some f.end = ap (λ (x : State). finale_of (at x)) d.state ∙ f.is in
-    rw (ran, ends) (ap Some (sym (f.text ∙ ap (λ xs. xs ++ (codes "finale\n" ++ ended_text f.end)) d.text)))
+    record {
+      end = f.end;
+      ran = rw (ran, ends) refl;
+      state = f.state;
+      whole = f.whole;
+      told = rw (ran, ends) (ap Some (sym (f.text ∙ ap (λ xs. xs ++ (codes "finale\n" ++ ended_text f.end)) d.text)));
+    }
 
 -- ---- the same of the script whose order is taken out
 
@@ -128,12 +134,12 @@ same_start s t e = rw e refl
 pub can_run : (s t : Script) → IsSoundScript s → t ≡ record s { order = [] } → CanRun t
 can_run s t h e = rw e (record { some = h.framed; apart = h.apart; named = h.named; leaves = h.leaves })
 
-pub whole_runs : (s t : Script) (o : List Item) (from mid : State) (before text whole : List ℕ) → t ≡ record s { order = [] } → from ≡ start (script_in t) → o ≡ s.order → before ≡ []
-    → AreDone from o mid before text → IsEnded mid text whole → (missing_item s ≡ None) × (replay_of s ≡ Some whole)
-whole_runs s t o from mid before text whole e f same none d w =
+pub whole_runs : (s t : Script) (o : List Item) (from mid new : State) (before text whole : List ℕ) → t ≡ record s { order = [] } → from ≡ start (script_in t) → o ≡ s.order → before ≡ []
+    → AreDone from o mid before text → IsEnded mid new text whole → (missing_item s ≡ None) × IsRun s new whole
+whole_runs s t o from mid new before text whole e f same none d w =
     let begins : from ≡ start (script_in s) = f ∙ same_start s t e in
     let done : AreDone from s.order mid [] text = subst (λ (x : List Item). AreDone from x mid [] text) same (subst (λ (b : List ℕ). AreDone from o mid b text) none d) in
-    (none_missing s from mid [] text begins done, ran_whole s from mid text whole begins done w)
+    (none_missing s from mid [] text begins done, ran_whole s from mid new text whole begins done w)
 
 pub missing_runs : (s t : Script) (o : List Item) (from : State) (i : ℕ) → t ≡ record s { order = [] } → from ≡ start (script_in t) → o ≡ s.order → IsMissing (at from) o i → missing_item s ≡ Some i
 missing_runs s t o from i e f same m = ran_missing s from i (f ∙ same_start s t e) (subst (λ (x : List Item). IsMissing (at from) x i) same m)

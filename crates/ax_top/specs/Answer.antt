@@ -5,14 +5,13 @@ use Rattle.ax_words.specs.declared.Command.TheVariants.{Replay, Race, Combine, A
 use Rattle.ax_script.specs.declared.error.ScriptErr.{ScriptErr}
 use Rattle.ax_script.specs.declared.script.Script.{Script}
 use Rattle.ax_script.specs.ErrorText.{script_error_text}
-use Rattle.ax_top.specs.Runs.{replay_of}
 
 -- the command is built, so that words which are it aren't answered by the usage line
 abbrev pub is_built : Option Command → Bool
 is_built None = false
 is_built (Some Replay) = true
 is_built (Some Race) = false
-is_built (Some Combine) = false
+is_built (Some Combine) = true
 is_built (Some Act) = false
 is_built (Some (Gen seed frames ops)) = true
 
@@ -21,7 +20,7 @@ abbrev pub is_reading : Option Command → Bool
 is_reading None = false
 is_reading (Some Replay) = true
 is_reading (Some Race) = false
-is_reading (Some Combine) = false
+is_reading (Some Combine) = true
 is_reading (Some Act) = false
 is_reading (Some (Gen seed frames ops)) = false
 
@@ -38,6 +37,6 @@ abbrev pub usage_text : List ℕ
 usage_text = codes "usage: ax_tool replay | race | combine | act | gen SEED FRAMES OPS\n"
 
 -- the text of what the bytes are: that of a script's run, or the line of the refusal
-abbrev pub text_of : Result Script ScriptErr → Option (List ℕ)
-text_of (Ok s) = replay_of s
-text_of (Err e) = Some (script_error_text e)
+abbrev pub text_of : (Script → Option (List ℕ)) → Result Script ScriptErr → Option (List ℕ)
+text_of told (Ok s) = told s
+text_of told (Err e) = Some (script_error_text e)

@@ -1,5 +1,6 @@
 pub mod Answer
 pub mod Counting
+pub mod Endings
 pub mod Ends
 pub mod Gen
 pub mod Running

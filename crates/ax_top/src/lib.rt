@@ -3,6 +3,7 @@
 #![tactic(auto)]
 
 mod answer;
+mod ending;
 mod making;
 mod running;
 mod top;

@@ -10,7 +10,7 @@ ghost use Rattle.ax_top.specs.Counting.{plus, counts_of, counts_line};
 
 use ax_ask::{Line, PassNote, UpdateNote};
 use ax_base::{NoMemory, TreeId};
-use ax_core::Core;
+use ax_core::{Core, Listener};
 use ax_forest::Forest;
 use ax_gen::make;
 use ax_report::Bytes;
@@ -30,7 +30,7 @@ struct Counts {
     events: u64,
 }
 
-/// Makes a script, runs it, and gives its line.
+/// Makes a script, runs it, and gives its line. The lines of the run are counted as they come, and not kept.
 pub(crate) fn gen_text(alloc: Global, seed: u32, frames: u32, ops: u32) -> Result<Bytes, NoMemory>
     requires some { 0 < frames }
     requires frames { frames ≤ 1000 }
@@ -39,8 +39,8 @@ pub(crate) fn gen_text(alloc: Global, seed: u32, frames: u32, ops: u32) -> Resul
 {
     let script = make(alloc, seed, frames, ops)?;
     let mut core = Core::new(alloc, script)?;
-    let lines = core.finale()?;
-    let counts = counts_of(lines.as_slice())?;
+    let mut counts = no_counts();
+    core.tell_finale(&mut counts)?;
     let nodes = nodes_of(core.forest())?;
     let head = format!(in alloc; "gen {seed} {frames} {ops}")?;
     let line = counts_line(alloc, &head, counts, nodes)?;
@@ -122,19 +122,25 @@ fn with_line(counts: Counts, line: &Line) -> Result<Counts, NoMemory>
     }
 }
 
-fn counts_of(lines: &[Line]) -> Result<Counts, NoMemory>
-    ensures { IfOk result (λ counts. counts ≡ counts_of lines.now) }
+/// Each line adds what it tells.
+impl Listener for Counts {
+    ghost heard = { λ counts line. plus counts (counts_of (line ∷ [])) };
+
+    fn hear(&mut self, line: Line) -> Result<(), NoMemory> {
+        *self = with_line(*self, &line)?;
+        Ok(())
+    }
+}
+
+fn no_counts() -> Counts
+    ensures { result ≡ counts_of [] }
 {
-    let mut counts = Counts {
+    Counts {
         passes: 0,
         listed: 0,
         applied: 0,
         events: 0,
-    };
-    for line in lines {
-        counts = with_line(counts, line)?;
     }
-    Ok(counts)
 }
 
 /// How many nodes the tree's mirror has, where the tree is live.

@@ -1,16 +1,17 @@
 //! The top call.
-ghost use Rattle.std.specs.Prelude.{◌≡◌, ◌≢◌, ◌≤◌, ◌<◌, ◌⊎◌, IsTrue, IsOk, IsErr, IfSome, None, Some, false};
+ghost use Rattle.std.specs.Prelude.{◌≡◌, ◌≢◌, ◌≤◌, ◌<◌, ◌⊎◌, IsTrue, IsOk, IsErr, IfSome, None, false};
 ghost use Rattle.std.specs.Io.KnownBytes.{Appends, Keeps};
 ghost use Rattle.ax_io.specs.Causes.{Rose};
 ghost use Rattle.ax_io.specs.Parts.{AppendsFront};
-ghost use Rattle.ax_words.specs.declared.Command.TheVariants.{Replay};
 ghost use Rattle.ax_words.specs.Words.{command_of};
 ghost use Rattle.ax_top.specs.Runs.{script_of};
 ghost use Rattle.ax_top.specs.Gen.{gen_text};
 ghost use Rattle.ax_top.specs.Answer.{is_built, is_reading, is_making, text_of, usage_text};
+ghost use Rattle.ax_top.specs.Endings.{run_text};
 ghost use Rattle.ax_top.specs.Ends.{Done, IsMade, Replayed, TellsRefusal, WritesFront, WritesPart};
 
 use crate::answer::answer;
+use crate::ending::Ending;
 use crate::making::gen_text;
 use ax_base::Text;
 use ax_io::{ReadErr, Sink, Source, read_up_to, write_whole};
@@ -72,14 +73,14 @@ fn finish<K: Sink>(out: &mut K, text: &[u8], status: Status) -> Status
     }
 }
 
-/// Reads a script, runs it over its own order and writes the text.
-fn replay<S: Source, K: Sink>(alloc: Global, src: &mut S, out: &mut K) -> Status
-    ensures done { result ≡ Status.Ok → Replayed (S.left src.old) (S.left src.new) (K.held out.old) (K.held out.new) }
+/// Reads a script, runs it over its own order and writes the text with its ending.
+fn replay<S: Source, K: Sink>(alloc: Global, ending: Ending, src: &mut S, out: &mut K) -> Status
+    ensures done { result ≡ Status.Ok → Replayed (run_text ending) (S.left src.old) (S.left src.new) (K.held out.old) (K.held out.new) }
     ensures refused { result ≡ Status.Script → TellsRefusal (S.left src.old) (K.held out.old) (K.held out.new) }
     ensures usage { result ≢ Status.Usage }
     ensures read { result ≡ Status.ReadFault → Rose (S.fault_count src.old) (S.fault_count src.new) × Keeps (K.held out.old) (K.held out.new) }
     ensures write { result ≡ Status.WriteFault → Rose (K.fault_count out.old) (K.fault_count out.new)
-        × IfSome (S.left src.old) (λ b. WritesFront (text_of (script_of b)) (K.held out.old) (K.held out.new)) }
+        × IfSome (S.left src.old) (λ b. WritesFront (text_of (run_text ending) (script_of b)) (K.held out.old) (K.held out.new)) }
     ensures memory { result ≡ Status.NoMemory → Keeps (K.held out.old) (K.held out.new) }
     ensures source_later { S.fault_count src.old ≤ S.fault_count src.new }
     ensures sink_later { K.fault_count out.old ≤ K.fault_count out.new }
@@ -89,7 +90,7 @@ fn replay<S: Source, K: Sink>(alloc: Global, src: &mut S, out: &mut K) -> Status
         Err(ReadErr::Fault) => return Status::ReadFault,
         Err(ReadErr::NoMemory) => return Status::NoMemory,
     };
-    match answer(alloc, bytes) {
+    match answer(alloc, ending, bytes) {
         Ok(told) => {
             if told.is_script {
                 finish(out, &told.text, Status::Ok)
@@ -121,23 +122,24 @@ fn make_and_run<K: Sink>(alloc: Global, seed: u32, frames: u32, ops: u32, out: &
 
 /// Does what the words say.
 ///
-/// `replay` runs the script that it reads, over the script's own order; `gen` runs one that it makes. The other commands are
-/// answered like words that are none. Each status comes only as its clause says, and names the bytes that the source had left
-/// and those that the sink gained. No text is written before it stands whole.
+/// `replay` runs the script that it reads, over the script's own order; `combine` does so too, and has the combined tree
+/// behind the dump; `gen` runs a script that it makes. The other commands are answered like words that are none. Each status
+/// comes only as its clause says, and names the bytes that the source had left and those that the sink gained. No text is
+/// written before it stands whole.
 pub fn calm_main<S: Source, K: Sink>(
     alloc: Global,
     words: &[Text],
     src: &mut S,
     out: &mut K,
 ) -> Status
-    // The whole text was written: of `replay` that of the script that was read to its end, of `gen` its line.
+    // The whole text was written: of `replay` and `combine` that of the script that was read to its end, of `gen` its line.
     ensures done { result ≡ Status.Ok → Done (command_of words.now) (S.left src.old) (S.left src.new) (K.held out.old) (K.held out.new) }
     // The words are no command.
     ensures usage { result ≡ Status.Usage → (is_built (command_of words.now) ≡ false)
         × Appends (K.held out.old) (K.held out.new) usage_text }
     // Where the words don't ask for it the source isn't read, however the call ends.
     ensures unread { is_reading (command_of words.now) ≡ false → src.new ≡ src.old }
-    ensures refused { result ≡ Status.Script → (command_of words.now ≡ Some Replay)
+    ensures refused { result ≡ Status.Script → IsTrue (is_reading (command_of words.now))
         × TellsRefusal (S.left src.old) (K.held out.old) (K.held out.new) }
     ensures read { result ≡ Status.ReadFault → Rose (S.fault_count src.old) (S.fault_count src.new)
         × Keeps (K.held out.old) (K.held out.new) }
@@ -147,13 +149,13 @@ pub fn calm_main<S: Source, K: Sink>(
     ensures source_later { S.fault_count src.old ≤ S.fault_count src.new }
     ensures sink_later { K.fault_count out.old ≤ K.fault_count out.new }
 
-    // Where no count rose, a script whose items are there in their turn is replayed, or there was no memory.
-    ensures complete { command_of words.now ≡ Some Replay
+    // Where no count rose, a script whose items are there in their turn is run, or there was no memory.
+    ensures complete { IsTrue (is_reading (command_of words.now))
         → ¬ Rose (S.fault_count src.old) (S.fault_count src.new)
         → ¬ Rose (K.fault_count out.old) (K.fault_count out.new)
         → IfSome (S.left src.old) (λ b. IsOk (script_of b) → (result ≡ Status.Ok) ⊎ (result ≡ Status.NoMemory)) }
     // Where no count rose, other bytes are refused, or there was no memory.
-    ensures complete_refusal { command_of words.now ≡ Some Replay
+    ensures complete_refusal { IsTrue (is_reading (command_of words.now))
         → ¬ Rose (S.fault_count src.old) (S.fault_count src.new)
         → ¬ Rose (K.fault_count out.old) (K.fault_count out.new)
         → IfSome (S.left src.old) (λ b. IsErr (script_of b) → (result ≡ Status.Script) ⊎ (result ≡ Status.NoMemory)) }
@@ -171,7 +173,8 @@ pub fn calm_main<S: Source, K: Sink>(
         → (result ≡ Status.Usage) ⊎ (result ≡ Status.NoMemory) }
 {
     match read_words(alloc, words) {
-        Ok(Some(Command::Replay)) => replay(alloc, src, out),
+        Ok(Some(Command::Replay)) => replay(alloc, Ending::Dump, src, out),
+        Ok(Some(Command::Combine)) => replay(alloc, Ending::Combined, src, out),
         Ok(Some(Command::Gen { seed, frames, ops })) => make_and_run(alloc, seed, frames, ops, out),
         Ok(_) => finish(out, USAGE.as_bytes(), Status::Usage),
         Err(_) => Status::NoMemory,

@@ -1,230 +1,16 @@
-//! `calm_main` over sources and sinks in memory.
-ghost use Rattle.std.specs.Prelude.{◌≤◌, None};
+//! `calm_main` where a source or a sink fails, where there are too many bytes, and with other words.
+ghost use Rattle.std.specs.Prelude.{None};
 
-use ax_base::Text;
-use ax_io::{Failed, MemSink, MemSource, Source};
-use ax_top::{Status, calm_main};
+use crate::given::{Given, ends, writes};
+use ax_io::{Failed, Source};
+use ax_top::Status;
 use std::alloc::Global;
-use std::test::Fail;
 
-const FIRST: &[u8] =
-    b"{\"version\":1,\"frames\":[{\"tree\":1,\"ops\":[{\"op\":\"root\",\"node\":1},{\"op\":\"pass\"}]}]}";
+const FIRST: &str =
+    "{\"version\":1,\"frames\":[{\"tree\":1,\"ops\":[{\"op\":\"root\",\"node\":1},{\"op\":\"pass\"}]}]}";
 
-const FIRST_TEXT: &[u8] =
-    b"finale\nf1 root 1 ok\nf1 pass 1 base 0 token 0\n  u clear 0 root 1 list 1 data\na1 applied 1\n  e 1:1 subtree_created\ndump\ntree 1 parent 0 focused 0 loaded no focus 0 sel 0 0 0 0 title \"\" url \"\"\n1 generic\n";
-
-fn texts(alloc: Global, words: &[&str]) -> Result<Vec<Text>, Fail> {
-    let mut texts = Vec::new(alloc);
-    for word in words {
-        texts.push(Text::of(alloc, word).map_err(|_| Fail::from("memory"))?)?;
-    }
-    Ok(texts)
-}
-
-fn sink(alloc: Global, chunk: usize, failing: Vec<u64>) -> Result<MemSink, Fail>
-    requires { 1 ≤ chunk }
-{
-    MemSink::new(alloc, 4096, chunk, failing).map_err(|_| Fail::from("memory"))
-}
-
-/// Runs `replay` on a script, and gives its status and what it wrote.
-fn replayed(alloc: Global, script: &[u8]) -> Result<(Status, Vec<u8>), Fail> {
-    let words = texts(alloc, &["replay"])?;
-    let mut src = MemSource::new(script.to_vec(alloc)?, 7, Vec::new(alloc));
-    let mut out = sink(alloc, 8, Vec::new(alloc))?;
-    let status = calm_main(alloc, &words, &mut src, &mut out);
-    Ok((status, out.held().to_vec(alloc)?))
-}
-
-/// Scripts and their texts, which come from a reference written apart. Edits and probes of one frame, one script with each kind of
-/// value and all tree data, then scripts with frames that hang in one another, orders, tokens that are asked for and that aren't, and
-/// readers of both versions.
-const REPLAYED: [(&str, &str); 26] = [
-    (
-        "{\"version\":1,\"frames\":[{\"tree\":1,\"ops\":[{\"op\":\"root\",\"node\":1},{\"op\":\"pass\"}]}]}",
-        "finale\nf1 root 1 ok\nf1 pass 1 base 0 token 0\n  u clear 0 root 1 list 1 data\na1 applied 1\n  e 1:1 subtree_created\ndump\ntree 1 parent 0 focused 0 loaded no focus 0 sel 0 0 0 0 title \"\" url \"\"\n1 generic\n",
-    ),
-    (
-        "{\"version\":1,\"frames\":[{\"tree\":1,\"ops\":[{\"op\":\"root\",\"node\":1},{\"op\":\"insert\",\"parent\":1,\"index\":0,\"node\":2},{\"op\":\"insert\",\"parent\":1,\"index\":1,\"node\":3},{\"op\":\"insert\",\"parent\":1,\"index\":2,\"node\":4},{\"op\":\"insert\",\"parent\":1,\"index\":3,\"node\":5},{\"op\":\"pass\"},{\"op\":\"remove\",\"node\":2},{\"op\":\"insert\",\"parent\":1,\"index\":3,\"node\":6},{\"op\":\"pass\"}]}]}",
-        "finale\nf1 root 1 ok\nf1 insert 2 ok\nf1 insert 3 ok\nf1 insert 4 ok\nf1 insert 5 ok\nf1 pass 1 base 0 token 0\n  u clear 0 root 1 list 1 2 3 4 5 data\nf1 remove 2 ok\nf1 insert 6 ok\nf1 pass 2 base 1 token 0\n  u clear 0 root 0 list 1 6\na1 applied 1\n  e 1:1 subtree_created\na1 applied 2\n  e 1:1 children_changed\n  e 1:6 subtree_created\ndump\ntree 1 parent 0 focused 0 loaded no focus 0 sel 0 0 0 0 title \"\" url \"\"\n1 generic\n  3 generic\n  4 generic\n  5 generic\n  6 generic\n",
-    ),
-    (
-        "{\"version\":1,\"frames\":[{\"tree\":1,\"ops\":[{\"op\":\"root\",\"node\":1},{\"op\":\"pass\"},{\"op\":\"pass\"}]}]}",
-        "finale\nf1 root 1 ok\nf1 pass 1 base 0 token 0\n  u clear 0 root 1 list 1 data\nf1 pass nothing\na1 applied 1\n  e 1:1 subtree_created\ndump\ntree 1 parent 0 focused 0 loaded no focus 0 sel 0 0 0 0 title \"\" url \"\"\n1 generic\n",
-    ),
-    (
-        "{\"version\":1,\"frames\":[{\"tree\":1,\"ops\":[]}]}",
-        "finale\ndump\ntree 1 empty\n",
-    ),
-    (
-        "{\"version\":1,\"frames\":[{\"tree\":1,\"ops\":[{\"op\":\"root\",\"node\":1},{\"op\":\"insert\",\"parent\":1,\"index\":0,\"node\":2},{\"op\":\"insert\",\"parent\":1,\"index\":1,\"node\":3},{\"op\":\"insert\",\"parent\":2,\"index\":0,\"node\":4},{\"op\":\"pass\"},{\"op\":\"move\",\"node\":4,\"parent\":3,\"index\":0},{\"op\":\"pass\"}]}]}",
-        "finale\nf1 root 1 ok\nf1 insert 2 ok\nf1 insert 3 ok\nf1 insert 4 ok\nf1 pass 1 base 0 token 0\n  u clear 0 root 1 list 1 2 4 3 data\nf1 move 4 ok\nf1 pass 2 base 1 token 0\n  u clear 0 root 0 list 2\n  u clear 0 root 0 list 3 4\na1 applied 1\n  e 1:1 subtree_created\na1 applied 2\n  e 1:2 children_changed\n  e 1:3 children_changed\ndump\ntree 1 parent 0 focused 0 loaded no focus 0 sel 0 0 0 0 title \"\" url \"\"\n1 generic\n  2 generic\n  3 generic\n    4 generic\n",
-    ),
-    (
-        "{\"version\":1,\"frames\":[{\"tree\":1,\"ops\":[{\"op\":\"root\",\"node\":1},{\"op\":\"insert\",\"parent\":1,\"index\":0,\"node\":2},{\"op\":\"insert\",\"parent\":1,\"index\":1,\"node\":3},{\"op\":\"insert\",\"parent\":2,\"index\":0,\"node\":4},{\"op\":\"pass\"},{\"op\":\"set\",\"node\":3,\"attrs\":{\"name\":\"x\"}},{\"op\":\"move\",\"node\":4,\"parent\":3,\"index\":0},{\"op\":\"pass\"}]}]}",
-        "finale\nf1 root 1 ok\nf1 insert 2 ok\nf1 insert 3 ok\nf1 insert 4 ok\nf1 pass 1 base 0 token 0\n  u clear 0 root 1 list 1 2 4 3 data\nf1 set 3 ok\nf1 move 4 ok\nf1 pass 2 base 1 token 0\n  u clear 1 root 0 list 1 2 3 4\na1 applied 1\n  e 1:1 subtree_created\na1 applied 2\n  e 1:2 children_changed\n  e 1:3 name_changed\n  e 1:3 children_changed\ndump\ntree 1 parent 0 focused 0 loaded no focus 0 sel 0 0 0 0 title \"\" url \"\"\n1 generic\n  2 generic\n  3 generic name=\"x\"\n    4 generic\n",
-    ),
-    (
-        "{\"version\":1,\"frames\":[{\"tree\":1,\"ops\":[{\"op\":\"root\",\"node\":1},{\"op\":\"insert\",\"parent\":1,\"index\":0,\"node\":2},{\"op\":\"pass\"},{\"op\":\"remove\",\"node\":2},{\"op\":\"insert\",\"parent\":1,\"index\":0,\"node\":2,\"role\":\"button\"},{\"op\":\"pass\"}]}]}",
-        "finale\nf1 root 1 ok\nf1 insert 2 ok\nf1 pass 1 base 0 token 0\n  u clear 0 root 1 list 1 2 data\nf1 remove 2 ok\nf1 insert 2 ok\nf1 pass 2 base 1 token 0\n  u clear 0 root 0 list 1 2\na1 applied 1\n  e 1:1 subtree_created\na1 applied 2\n  e 1:2 role_changed\ndump\ntree 1 parent 0 focused 0 loaded no focus 0 sel 0 0 0 0 title \"\" url \"\"\n1 generic\n  2 button\n",
-    ),
-    (
-        "{\"version\":1,\"frames\":[{\"tree\":1,\"ops\":[{\"op\":\"root\",\"node\":1},{\"op\":\"insert\",\"parent\":1,\"index\":0,\"node\":2},{\"op\":\"insert\",\"parent\":1,\"index\":1,\"node\":7},{\"op\":\"insert\",\"parent\":2,\"index\":0,\"node\":3},{\"op\":\"insert\",\"parent\":2,\"index\":1,\"node\":6},{\"op\":\"insert\",\"parent\":3,\"index\":0,\"node\":4},{\"op\":\"insert\",\"parent\":6,\"index\":0,\"node\":5},{\"op\":\"insert\",\"parent\":7,\"index\":0,\"node\":8},{\"op\":\"pass\"},{\"op\":\"set\",\"node\":4,\"attrs\":{\"name\":\"x\"}},{\"op\":\"move\",\"node\":5,\"parent\":4,\"index\":0},{\"op\":\"move\",\"node\":8,\"parent\":6,\"index\":0},{\"op\":\"pass\"}]}]}",
-        "finale\nf1 root 1 ok\nf1 insert 2 ok\nf1 insert 7 ok\nf1 insert 3 ok\nf1 insert 6 ok\nf1 insert 4 ok\nf1 insert 5 ok\nf1 insert 8 ok\nf1 pass 1 base 0 token 0\n  u clear 0 root 1 list 1 2 3 4 6 5 7 8 data\nf1 set 4 ok\nf1 move 5 ok\nf1 move 8 ok\nf1 pass 2 base 1 token 0\n  u clear 1 root 0 list 1 2 3 4 5 6 8 7\na1 applied 1\n  e 1:1 subtree_created\na1 applied 2\n  e 1:4 name_changed\n  e 1:4 children_changed\n  e 1:6 children_changed\n  e 1:7 children_changed\ndump\ntree 1 parent 0 focused 0 loaded no focus 0 sel 0 0 0 0 title \"\" url \"\"\n1 generic\n  2 generic\n    3 generic\n      4 generic name=\"x\"\n        5 generic\n    6 generic\n      8 generic\n  7 generic\n",
-    ),
-    (
-        "{\"version\":1,\"frames\":[{\"tree\":1,\"ops\":[{\"op\":\"root\",\"node\":1},{\"op\":\"insert\",\"parent\":1,\"index\":0,\"node\":2},{\"op\":\"insert\",\"parent\":1,\"index\":1,\"node\":3},{\"op\":\"pass\"},{\"op\":\"root\",\"node\":3},{\"op\":\"insert\",\"parent\":3,\"index\":0,\"node\":1},{\"op\":\"pass\"}]}]}",
-        "finale\nf1 root 1 ok\nf1 insert 2 ok\nf1 insert 3 ok\nf1 pass 1 base 0 token 0\n  u clear 0 root 1 list 1 2 3 data\nf1 root 3 ok\nf1 insert 1 ok\nf1 pass 2 base 1 token 0\n  u clear 1 root 3 list 3 1\na1 applied 1\n  e 1:1 subtree_created\na1 applied 2\n  e 1:3 children_changed\n  e 1:1 children_changed\ndump\ntree 1 parent 0 focused 0 loaded no focus 0 sel 0 0 0 0 title \"\" url \"\"\n3 generic\n  1 generic\n",
-    ),
-    (
-        "{\"version\":1,\"frames\":[{\"tree\":1,\"ops\":[{\"op\":\"root\",\"node\":1},{\"op\":\"insert\",\"parent\":1,\"index\":0,\"node\":2},{\"op\":\"insert\",\"parent\":1,\"index\":1,\"node\":3},{\"op\":\"insert\",\"parent\":3,\"index\":0,\"node\":4},{\"op\":\"pass\"}]}],\"browser\":[{\"op\":\"probe\",\"tree\":1,\"update\":{\"nodes\":[{\"node\":1,\"children\":[2,3,9]}]}},{\"op\":\"probe\",\"tree\":1,\"update\":{\"nodes\":[{\"node\":2,\"children\":[4]}]}},{\"op\":\"probe\",\"tree\":1,\"update\":{\"nodes\":[{\"node\":1,\"children\":[2,2]}]}},{\"op\":\"probe\",\"tree\":1,\"update\":{\"clear\":9,\"nodes\":[]}},{\"op\":\"probe\",\"tree\":1,\"update\":{\"clear\":3,\"nodes\":[]}},{\"op\":\"probe\",\"tree\":1,\"update\":{\"nodes\":[{\"node\":9}]}}]}",
-        "finale\nf1 root 1 ok\nf1 insert 2 ok\nf1 insert 3 ok\nf1 insert 4 ok\nf1 pass 1 base 0 token 0\n  u clear 0 root 1 list 1 2 3 4 data\na1 applied 1\n  e 1:1 subtree_created\nb probe 1 Pending 9\nb probe 1 Reparented 4\nb probe 1 DuplicateChild 2\nb probe 1 BadClear 9\nb probe 1 Pending 3\nb probe 1 NotInTree 9\ndump\ntree 1 parent 0 focused 0 loaded no focus 0 sel 0 0 0 0 title \"\" url \"\"\n1 generic\n  2 generic\n  3 generic\n    4 generic\n",
-    ),
-    (
-        "{\"version\":1,\"frames\":[{\"tree\":1,\"ops\":[{\"op\":\"root\",\"node\":1},{\"op\":\"insert\",\"parent\":1,\"index\":0,\"node\":2},{\"op\":\"insert\",\"parent\":1,\"index\":1,\"node\":3},{\"op\":\"insert\",\"parent\":3,\"index\":0,\"node\":4},{\"op\":\"pass\"}]}],\"browser\":[{\"op\":\"probe\",\"tree\":1,\"update\":{\"nodes\":[{\"node\":1,\"children\":[2]},{\"node\":2,\"children\":[4]},{\"node\":4}]}}]}",
-        "finale\nf1 root 1 ok\nf1 insert 2 ok\nf1 insert 3 ok\nf1 insert 4 ok\nf1 pass 1 base 0 token 0\n  u clear 0 root 1 list 1 2 3 4 data\na1 applied 1\n  e 1:1 subtree_created\nb probe 1 accepted 3\ndump\ntree 1 parent 0 focused 0 loaded no focus 0 sel 0 0 0 0 title \"\" url \"\"\n1 generic\n  2 generic\n  3 generic\n    4 generic\n",
-    ),
-    (
-        "{\"version\":1,\"frames\":[{\"tree\":1,\"ops\":[{\"op\":\"remove\",\"node\":1},{\"op\":\"root\",\"node\":1},{\"op\":\"insert\",\"parent\":1,\"index\":0,\"node\":2},{\"op\":\"insert\",\"parent\":9,\"index\":0,\"node\":3},{\"op\":\"insert\",\"parent\":1,\"index\":0,\"node\":2},{\"op\":\"insert\",\"parent\":1,\"index\":5,\"node\":3},{\"op\":\"remove\",\"node\":1},{\"op\":\"move\",\"node\":1,\"parent\":2,\"index\":0},{\"op\":\"move\",\"node\":2,\"parent\":2,\"index\":0},{\"op\":\"touch\",\"node\":9}]}]}",
-        "finale\nf1 remove 1 NoRoot\nf1 root 1 ok\nf1 insert 2 ok\nf1 insert 3 UnknownNode 9\nf1 insert 2 IdTaken 2\nf1 insert 3 BadIndex 5 1\nf1 remove 1 IsRoot 1\nf1 move 1 IsRoot 1\nf1 move 2 IntoItself 2\nf1 touch 9 UnknownNode 9\nb ask 1 token 1\nd1:1\nf1 pass 1 base 0 token 1\n  u clear 0 root 1 list 1 2 data\na1 applied 1\n  e 1:1 subtree_created\ndump\ntree 1 parent 0 focused 0 loaded no focus 0 sel 0 0 0 0 title \"\" url \"\"\n1 generic\n  2 generic\n",
-    ),
-    (
-        "{\"version\":1,\"frames\":[{\"tree\":1,\"ops\":[{\"op\":\"root\",\"node\":1},{\"op\":\"insert\",\"parent\":1,\"index\":0,\"node\":2},{\"op\":\"pass\"},{\"op\":\"touch\",\"node\":2},{\"op\":\"pass\"}]}]}",
-        "finale\nf1 root 1 ok\nf1 insert 2 ok\nf1 pass 1 base 0 token 0\n  u clear 0 root 1 list 1 2 data\nf1 touch 2 ok\nf1 pass 2 base 1 token 0\n  u clear 0 root 0 list 2\na1 applied 1\n  e 1:1 subtree_created\na1 applied 2\ndump\ntree 1 parent 0 focused 0 loaded no focus 0 sel 0 0 0 0 title \"\" url \"\"\n1 generic\n  2 generic\n",
-    ),
-    (
-        "{\"version\":1,\"frames\":[{\"tree\":1,\"ops\":[{\"op\":\"root\",\"node\":1},{\"op\":\"insert\",\"parent\":1,\"index\":0,\"node\":2},{\"op\":\"pass\"},{\"op\":\"touch_below\",\"node\":1},{\"op\":\"pass\"}]}]}",
-        "finale\nf1 root 1 ok\nf1 insert 2 ok\nf1 pass 1 base 0 token 0\n  u clear 0 root 1 list 1 2 data\nf1 touch_below 1 ok\nf1 pass 2 base 1 token 0\n  u clear 0 root 0 list 1 2\na1 applied 1\n  e 1:1 subtree_created\na1 applied 2\ndump\ntree 1 parent 0 focused 0 loaded no focus 0 sel 0 0 0 0 title \"\" url \"\"\n1 generic\n  2 generic\n",
-    ),
-    (
-        "{\"version\":1,\"frames\":[{\"tree\":1,\"ops\":[{\"op\":\"root\",\"node\":1,\"role\":\"button\",\"states\":[\"visited\",\"focusable\"],\"attrs\":{\"level\":3,\"name\":\"a\\\"b\"},\"rect\":[1,2,3,4]},{\"op\":\"pass\"}]}]}",
-        "finale\nf1 root 1 ok\nf1 pass 1 base 0 token 0\n  u clear 0 root 1 list 1 data\na1 applied 1\n  e 1:1 subtree_created\ndump\ntree 1 parent 0 focused 0 loaded no focus 0 sel 0 0 0 0 title \"\" url \"\"\n1 button [1,2,3,4] +focusable +visited name=\"a\\\"b\" level=3\n",
-    ),
-    (
-        "{\"version\":1,\"frames\":[{\"tree\":1,\"ops\":[{\"op\":\"root\",\"node\":1},{\"op\":\"insert\",\"parent\":1,\"index\":0,\"node\":2},{\"op\":\"insert\",\"parent\":1,\"index\":1,\"node\":3},{\"op\":\"insert\",\"parent\":3,\"index\":0,\"node\":4},{\"op\":\"pass\"}]}],\"browser\":[{\"op\":\"probe\",\"tree\":1,\"update\":{\"nodes\":[]}},{\"op\":\"probe\",\"tree\":1,\"update\":{\"root\":5,\"nodes\":[{\"node\":5}]}},{\"op\":\"probe\",\"tree\":1,\"update\":{\"root\":5,\"nodes\":[]}},{\"op\":\"probe\",\"tree\":1,\"update\":{\"clear\":2,\"root\":9,\"nodes\":[{\"node\":9}]}},{\"op\":\"probe\",\"tree\":1,\"update\":{\"clear\":4,\"root\":1,\"nodes\":[{\"node\":1,\"children\":[2,3]}]}},{\"op\":\"probe\",\"tree\":1,\"update\":{\"nodes\":[{\"node\":1,\"children\":[1]}]}},{\"op\":\"probe\",\"tree\":1,\"update\":{\"nodes\":[{\"node\":1,\"children\":[4,4]}]}},{\"op\":\"probe\",\"tree\":1,\"update\":{\"nodes\":[{\"node\":3},{\"node\":2,\"children\":[4]},{\"node\":4}]}},{\"op\":\"probe\",\"tree\":1,\"update\":{\"nodes\":[{\"node\":2,\"children\":[7]},{\"node\":1,\"children\":[3]}]}}]}",
-        "finale\nf1 root 1 ok\nf1 insert 2 ok\nf1 insert 3 ok\nf1 insert 4 ok\nf1 pass 1 base 0 token 0\n  u clear 0 root 1 list 1 2 3 4 data\na1 applied 1\n  e 1:1 subtree_created\nb probe 1 accepted 4\nb probe 1 accepted 1\nb probe 1 Pending 5\nb probe 1 accepted 1\nb probe 1 Pending 4\nb probe 1 Reparented 1\nb probe 1 DuplicateChild 4\nb probe 1 accepted 4\nb probe 1 accepted 3\ndump\ntree 1 parent 0 focused 0 loaded no focus 0 sel 0 0 0 0 title \"\" url \"\"\n1 generic\n  2 generic\n  3 generic\n    4 generic\n",
-    ),
-    (
-        "{\"version\":1,\"frames\":[{\"tree\":1,\"ops\":[]}],\"browser\":[{\"op\":\"probe\",\"tree\":1,\"update\":{\"nodes\":[{\"node\":1}]}},{\"op\":\"probe\",\"tree\":1,\"update\":{\"clear\":1,\"nodes\":[]}}]}",
-        "finale\nb probe 1 NotInTree 1\nb probe 1 BadClear 1\ndump\ntree 1 empty\n",
-    ),
-    (
-        "{\"version\":1,\"frames\":[{\"tree\":7,\"ops\":[{\"op\":\"pass\"},{\"op\":\"root\",\"node\":1},{\"op\":\"pass\"},{\"op\":\"pass\"},{\"op\":\"root\",\"node\":5},{\"op\":\"pass\"},{\"op\":\"data\",\"focus\":5}]}]}",
-        "finale\nf7 pass nothing\nf7 root 1 ok\nf7 pass 1 base 0 token 0\n  u clear 0 root 1 list 1 data\nf7 pass nothing\nf7 root 5 ok\nf7 pass 2 base 1 token 0\n  u clear 1 root 5 list 5\nf7 data ok\na7 applied 1\n  e 7:1 subtree_created\na7 applied 2\n  e 7:5 subtree_created\nb ask 7 token 1\nd7:1\nf7 pass 3 base 0 token 1\n  u clear 0 root 5 list 5 data\na7 applied 3\n  e 7:5 focus_changed\ndump\ntree 7 parent 0 focused 0 loaded no focus 5 sel 0 0 0 0 title \"\" url \"\"\n5 generic\n",
-    ),
-    (
-        "{\"order\":\"\",\"version\":2,\"readers\":[[]],\"frames\":[{\"tree\":1,\"ops\":[]}],\"actions\":[{\"do\":\"focus\",\"tree\":1,\"node\":1}]}",
-        "finale\ndump\ntree 1 empty\n",
-    ),
-    (
-        "{\"version\":2,\"frames\":[{\"tree\":7,\"ops\":[{\"op\":\"root\",\"node\":9,\"role\":\"root_web_area\",\"rect\":[-5,-2147483648,2147483647,0]},{\"op\":\"insert\",\"parent\":9,\"index\":0,\"node\":4,\"role\":\"checkbox\",\"states\":[\"ignored\"]},{\"op\":\"insert\",\"parent\":9,\"index\":1,\"node\":8,\"role\":\"image\",\"rect\":[0,0,1,0]},{\"op\":\"insert\",\"parent\":9,\"index\":2,\"node\":2147483647,\"role\":\"iframe\",\"rect\":[0,1,0,0],\"attrs\":{\"child_tree\":1}},{\"op\":\"insert\",\"parent\":4,\"index\":0,\"node\":2,\"role\":\"text_field\",\"rect\":[0,0,0,1],\"states\":[\"pressed\",\"visited\",\"collapsed\",\"focusable\"],\"attrs\":{\"scroll_y\":0,\"atomic\":false,\"value_max\":2147483647,\"modal\":true,\"controls\":2147483647,\"level\":-2147483648,\"child_tree\":1000,\"language\":\"\",\"name\":\"\\u00e9\\\"\\\\/\\b\\f\\n\\r\\t\\u0000\\u000b\\u001f \\u007f\\u0080\\u2028\\ud83d\\ude00\"}},{\"op\":\"insert\",\"parent\":2,\"index\":0,\"node\":30,\"role\":\"static_text\"},{\"op\":\"data\",\"parent\":1000,\"focused\":1,\"loaded\":true,\"focus\":30,\"title\":\"\\\"Yes\\\"\",\"url\":\"c:\\\\new\\tpage\",\"sel\":[4,0,30,2147483647]},{\"op\":\"pass\"}]}]}",
-        "finale\nf7 root 9 ok\nf7 insert 4 ok\nf7 insert 8 ok\nf7 insert 2147483647 ok\nf7 insert 2 ok\nf7 insert 30 ok\nf7 data ok\nf7 pass 1 base 0 token 0\n  u clear 0 root 9 list 9 4 2 30 8 2147483647 data\na7 applied 1\n  e 7 document_title_changed\n  e 7 url_changed\n  e 7 load_complete\n  e 7 selection_changed\n  e 7:30 focus_changed\n  e 7:9 subtree_created\ndump\ntree 7 parent 1000 focused 1 loaded yes focus 30 sel 4 0 30 2147483647 title \"\\\"Yes\\\"\" url \"c:\\\\new\\tpage\"\n9 root_web_area [-5,-2147483648,2147483647,0]\n  4 checkbox +ignored\n    2 text_field [0,0,0,1] +focusable +collapsed +visited +pressed name=\"\u{e9}\\\"\\\\/\\b\\f\\n\\r\\t\\u0000\\u000b\\u001f \u{7f}\u{80}\u{2028}\u{1f600}\" language=\"\" child_tree=1000 level=-2147483648 controls=2147483647 modal=yes value_max=2147483647 atomic=no scroll_y=0\n      30 static_text\n  8 image [0,0,1,0]\n  2147483647 iframe [0,1,0,0] child_tree=1\n",
-    ),
-    (
-        "{\"version\":1,\"frames\":[{\"tree\":1,\"ops\":[{\"op\":\"data\",\"title\":\"News\",\"url\":\"https://news.example/\"},{\"op\":\"root\",\"node\":1,\"role\":\"root_web_area\",\"rect\":[0,0,800,600]},{\"op\":\"insert\",\"parent\":1,\"index\":0,\"node\":2,\"role\":\"heading\",\"attrs\":{\"name\":\"Storm\"},\"rect\":[0,0,800,40]},{\"op\":\"insert\",\"parent\":1,\"index\":1,\"node\":3,\"role\":\"status\",\"attrs\":{\"live\":\"polite\"},\"rect\":[0,40,800,20]},{\"op\":\"insert\",\"parent\":3,\"index\":0,\"node\":4,\"role\":\"static_text\",\"attrs\":{\"name\":\"0 new\"},\"rect\":[0,40,800,20]},{\"op\":\"insert\",\"parent\":1,\"index\":2,\"node\":5,\"role\":\"iframe\",\"attrs\":{\"child_tree\":2},\"rect\":[600,60,200,200]},{\"op\":\"insert\",\"parent\":1,\"index\":3,\"node\":6,\"role\":\"iframe\",\"attrs\":{\"child_tree\":3},\"rect\":[600,260,200,200]},{\"op\":\"pass\"},{\"op\":\"set\",\"node\":4,\"attrs\":{\"name\":\"1 new\"}},{\"op\":\"data\",\"loaded\":true,\"focus\":2},{\"op\":\"pass\"}]},{\"tree\":2,\"ops\":[{\"op\":\"data\",\"parent\":1},{\"op\":\"root\",\"node\":1,\"role\":\"button\",\"attrs\":{\"name\":\"Buy\"},\"rect\":[600,60,200,200]},{\"op\":\"pass\"}]},{\"tree\":3,\"ops\":[{\"op\":\"data\",\"parent\":1},{\"op\":\"root\",\"node\":1,\"rect\":[600,260,200,200]},{\"op\":\"insert\",\"parent\":1,\"index\":0,\"node\":2,\"role\":\"link\",\"attrs\":{\"name\":\"Ad\"},\"rect\":[600,260,100,20]},{\"op\":\"pass\"}]}],\"browser\":[{\"op\":\"destroy\",\"tree\":3,\"after\":4}],\"readers\":[[{\"q\":\"hit\",\"x\":650,\"y\":270,\"after\":3}],[{\"q\":\"focus\",\"after\":4}],[{\"q\":\"text\",\"at\":{\"tree\":1,\"node\":2,\"offset\":0},\"to\":{\"tree\":3,\"node\":2,\"offset\":2}}]],\"order\":\"f1 f1 f1 f1 f1 f1 f1 f1 a1 f2 f2 f2 a2 f3 f3 f3 f3 a3 r1 f1 f1 f1 a1 r2 r3 b\"}",
-        "f1 data ok\nf1 root 1 ok\nf1 insert 2 ok\nf1 insert 3 ok\nf1 insert 4 ok\nf1 insert 5 ok\nf1 insert 6 ok\nf1 pass 1 base 0 token 0\n  u clear 0 root 1 list 1 2 3 4 5 6 data\na1 applied 1\n  e 1 document_title_changed\n  e 1 url_changed\n  e 1:1 subtree_created\nf2 data ok\nf2 root 1 ok\nf2 pass 1 base 0 token 0\n  u clear 0 root 1 list 1 data\na2 applied 1\n  e 2:1 subtree_created\nf3 data ok\nf3 root 1 ok\nf3 insert 2 ok\nf3 pass 1 base 0 token 0\n  u clear 0 root 1 list 1 2 data\na3 applied 1\n  e 3:1 subtree_created\nr1 hit = 3:2\nf1 set 4 ok\nf1 data ok\nf1 pass 2 base 1 token 0\n  u clear 0 root 0 list 4 data\na1 applied 2\n  e 1 load_complete\n  e 1:2 focus_changed\n  e 1:3 live_region_changed\n  e 1:4 name_changed\nr2 focus = 1:2\nr3 text = \"Storm1 newBuyAd\"\nb destroy 3 ok\nfinale\ndump\ntree 1 parent 0 focused 0 loaded yes focus 2 sel 0 0 0 0 title \"News\" url \"https://news.example/\"\n1 root_web_area [0,0,800,600]\n  2 heading [0,0,800,40] name=\"Storm\"\n  3 status [0,40,800,20] live=\"polite\"\n    4 static_text [0,40,800,20] name=\"1 new\"\n  5 iframe [600,60,200,200] child_tree=2\n  6 iframe [600,260,200,200] child_tree=3\ntree 2 parent 1 focused 0 loaded no focus 0 sel 0 0 0 0 title \"\" url \"\"\n1 button [600,60,200,200] name=\"Buy\"\ntree 3 gone\n",
-    ),
-    (
-        "{\"version\":1,\"frames\":[{\"tree\":1,\"ops\":[{\"op\":\"root\",\"node\":1},{\"op\":\"pass\"},{\"op\":\"set\",\"node\":1,\"attrs\":{\"name\":\"a\"}},{\"op\":\"pass\"},{\"op\":\"pass\"}]}],\"browser\":[{\"op\":\"ask\",\"tree\":1}],\"order\":\"f1 f1 a1 f1 f1 b d1:1 a1 f1 a1\"}",
-        "f1 root 1 ok\nf1 pass 1 base 0 token 0\n  u clear 0 root 1 list 1 data\na1 applied 1\n  e 1:1 subtree_created\nf1 set 1 ok\nf1 pass 2 base 1 token 0\n  u clear 0 root 0 list 1\nb ask 1 token 1\nd1:1\na1 stale 0 1\nf1 pass 3 base 0 token 1\n  u clear 0 root 1 list 1 data\na1 applied 3\n  e 1:1 name_changed\nfinale\ndump\ntree 1 parent 0 focused 0 loaded no focus 0 sel 0 0 0 0 title \"\" url \"\"\n1 generic name=\"a\"\n",
-    ),
-    (
-        "{\"version\":1,\"frames\":[{\"tree\":1,\"ops\":[{\"op\":\"root\",\"node\":1},{\"op\":\"pass\"},{\"op\":\"set\",\"node\":1,\"attrs\":{\"name\":\"a\"}},{\"op\":\"pass\"},{\"op\":\"set\",\"node\":1,\"attrs\":{\"name\":\"b\"}},{\"op\":\"pass\"}]}],\"browser\":[{\"op\":\"ask\",\"tree\":1}],\"order\":\"f1 f1 d1:1 f1 f1 a1 a1 b f1 f1 a1\"}",
-        "f1 root 1 ok\nf1 pass 1 base 0 token 0\n  u clear 0 root 1 list 1 data\nd1:1\nf1 set 1 ok\nf1 pass 2 base 0 token 1\n  u clear 0 root 1 list 1 data\na1 applied 1\n  e 1:1 subtree_created\na1 stale 1 0\nb ask 1 token 1\nf1 set 1 ok\nf1 pass 3 base 2 token 1\n  u clear 0 root 0 list 1\na1 gap 2 1\nfinale\nb ask 1 token 2\nd1:2\nf1 pass 4 base 0 token 2\n  u clear 0 root 1 list 1 data\na1 applied 4\n  e 1:1 name_changed\ndump\ntree 1 parent 0 focused 0 loaded no focus 0 sel 0 0 0 0 title \"\" url \"\"\n1 generic name=\"b\"\n",
-    ),
-    (
-        "{\"version\":1,\"frames\":[{\"tree\":1,\"ops\":[{\"op\":\"root\",\"node\":1},{\"op\":\"insert\",\"parent\":1,\"index\":0,\"node\":2,\"attrs\":{\"name\":\"abe\\u0301\"}},{\"op\":\"insert\",\"parent\":1,\"index\":1,\"node\":3,\"role\":\"iframe\",\"attrs\":{\"child_tree\":2}},{\"op\":\"pass\"}]},{\"tree\":2,\"ops\":[{\"op\":\"data\",\"parent\":1},{\"op\":\"root\",\"node\":1,\"attrs\":{\"name\":\"c\"}},{\"op\":\"pass\"}]}],\"readers\":[[{\"q\":\"children\",\"tree\":1,\"node\":3}]]}",
-        "finale\nf1 root 1 ok\nf1 insert 2 ok\nf1 insert 3 ok\nf1 pass 1 base 0 token 0\n  u clear 0 root 1 list 1 2 3 data\nf2 data ok\nf2 root 1 ok\nf2 pass 1 base 0 token 0\n  u clear 0 root 1 list 1 data\na1 applied 1\n  e 1:1 subtree_created\na2 applied 1\n  e 2:1 subtree_created\nr1 children = 2:1\ndump\ntree 1 parent 0 focused 0 loaded no focus 0 sel 0 0 0 0 title \"\" url \"\"\n1 generic\n  2 generic name=\"abe\u{301}\"\n  3 iframe child_tree=2\ntree 2 parent 1 focused 0 loaded no focus 0 sel 0 0 0 0 title \"\" url \"\"\n1 generic name=\"c\"\n",
-    ),
-    (
-        "{\"version\":1,\"frames\":[{\"tree\":1,\"ops\":[{\"op\":\"root\",\"node\":1},{\"op\":\"insert\",\"parent\":1,\"index\":0,\"node\":2,\"attrs\":{\"name\":\"one two\"}},{\"op\":\"insert\",\"parent\":1,\"index\":1,\"node\":3},{\"op\":\"insert\",\"parent\":1,\"index\":2,\"node\":4,\"attrs\":{\"name\":\"x\"}},{\"op\":\"pass\"}]}],\"readers\":[[{\"q\":\"leaf\",\"at\":{\"tree\":1,\"node\":1,\"offset\":7,\"affinity\":\"up\"}},{\"q\":\"leaf\",\"at\":{\"tree\":1,\"node\":1,\"offset\":7}},{\"q\":\"up\",\"at\":{\"tree\":1,\"node\":4,\"offset\":1}},{\"q\":\"up\",\"at\":{\"tree\":1,\"node\":1,\"offset\":0}},{\"q\":\"offset\",\"at\":{\"tree\":1,\"node\":1,\"child\":2}},{\"q\":\"offset\",\"at\":{\"tree\":1,\"node\":1,\"child\":4}},{\"q\":\"offset\",\"at\":{\"tree\":1,\"node\":2,\"offset\":8}},{\"q\":\"offset\",\"at\":null},{\"q\":\"move\",\"at\":{\"tree\":1,\"node\":2,\"offset\":0},\"unit\":\"word\",\"way\":\"next\"},{\"q\":\"move\",\"at\":{\"tree\":1,\"node\":2,\"offset\":4},\"unit\":\"word\",\"way\":\"next\"},{\"q\":\"move\",\"at\":{\"tree\":1,\"node\":2,\"offset\":0},\"unit\":\"leaf\",\"way\":\"prev\"}]]}",
-        "finale\nf1 root 1 ok\nf1 insert 2 ok\nf1 insert 3 ok\nf1 insert 4 ok\nf1 pass 1 base 0 token 0\n  u clear 0 root 1 list 1 2 3 4 data\na1 applied 1\n  e 1:1 subtree_created\nr1 leaf = 1:2 text 7 up\nr1 leaf = 1:4 text 0 down\nr1 up = 1:1 text 8 down\nr1 up = NoParent\nr1 offset = 7\nr1 offset = BadIndex 4 3\nr1 offset = BadOffset 8 7\nr1 offset = NoTree\nr1 move = 1:2 text 4 down\nr1 move = 1:4 text 0 down\nr1 move = AtStart\ndump\ntree 1 parent 0 focused 0 loaded no focus 0 sel 0 0 0 0 title \"\" url \"\"\n1 generic\n  2 generic name=\"one two\"\n  3 generic\n  4 generic name=\"x\"\n",
-    ),
-    (
-        "{\"version\":2,\"frames\":[{\"tree\":1,\"ops\":[{\"op\":\"root\",\"node\":1,\"attrs\":{\"name\":\"x\"}},{\"op\":\"insert\",\"parent\":1,\"index\":0,\"node\":2,\"attrs\":{\"name\":\"y\"},\"states\":[\"ignored\"]},{\"op\":\"pass\"}]}],\"readers\":[[{\"q\":\"u_text\",\"tree\":1,\"node\":1},{\"q\":\"u_children\",\"tree\":1,\"node\":1},{\"q\":\"u_next\",\"tree\":1,\"node\":1},{\"q\":\"text\",\"at\":{\"tree\":1,\"node\":2,\"offset\":0},\"to\":{\"tree\":1,\"node\":2,\"offset\":1}}]]}",
-        "finale\nf1 root 1 ok\nf1 insert 2 ok\nf1 pass 1 base 0 token 0\n  u clear 0 root 1 list 1 2 data\na1 applied 1\n  e 1:1 subtree_created\nr1 u_text = \"x\"\nr1 u_children = -\nr1 u_next = AtEnd\nr1 text = \"y\"\ndump\ntree 1 parent 0 focused 0 loaded no focus 0 sel 0 0 0 0 title \"\" url \"\"\n1 generic name=\"x\"\n  2 generic +ignored name=\"y\"\n",
-    ),
-];
-
-#[test]
-fn scripts_are_replayed(rt: HostRuntime) -> Result<(), Fail> {
-    let alloc = rt.alloc();
-    for (script, text) in REPLAYED {
-        let (status, written) = replayed(alloc, script.as_bytes())?;
-        assert_eq!(&rt; status, Status::Ok);
-        assert_eq!(&rt; written.as_slice(), text.as_bytes());
-    }
-    Ok(())
-}
-
-/// Bytes that are no script, and the rest of the line that tells it.
-const GRAMMAR: [(&str, &str); 10] = [
-    ("", "NotJson"),
-    ("{\"version\":1,", "NotJson"),
-    ("{\"x\":1}", "UnknownMember $"),
-    ("{}", "Missing $.version"),
-    ("[]", "BadType $"),
-    ("{\"version\":1,\"frames\":[]}", "BadCount $.frames"),
-    ("{\"version\":1.0}", "BadNumber $.version"),
-    (
-        "{\"version\":1,\"frames\":[{\"tree\":1,\"ops\":[{\"op\":\"touch\",\"node\":1},{\"op\":\"fly\"}]}]}",
-        "BadName $.frames[0].ops[1].op",
-    ),
-    (
-        "{\"version\":1,\"frames\":[{\"tree\":1001,\"ops\":[]}]}",
-        "BadNumber $.frames[0].tree",
-    ),
-    (
-        "{\"version\":1,\"frames\":[{\"tree\":1,\"ops\":[]}],\"order\":\"f1 f2\"}",
-        "BadOrder 2",
-    ),
-];
-
-/// Scripts with an item of the order that isn't there in its turn, and its number.
-const OUT_OF_TURN: [(&str, &str); 6] = [
-    (
-        "{\"version\":1,\"frames\":[{\"tree\":1,\"ops\":[{\"op\":\"pass\"}]}],\"order\":\"f1 f1\"}",
-        "2",
-    ),
-    (
-        "{\"version\":1,\"frames\":[{\"tree\":1,\"ops\":[]}],\"order\":\"a1\"}",
-        "1",
-    ),
-    (
-        "{\"version\":1,\"frames\":[{\"tree\":1,\"ops\":[{\"op\":\"root\",\"node\":1},{\"op\":\"pass\"}]},{\"tree\":2,\"ops\":[]}],\"order\":\"f1 f1 a1 d2:7 a2 a1\"}",
-        "5",
-    ),
-    (
-        "{\"version\":1,\"frames\":[{\"tree\":1,\"ops\":[]}],\"browser\":[{\"op\":\"ask\",\"tree\":1}],\"order\":\"b b\"}",
-        "2",
-    ),
-    (
-        "{\"version\":1,\"frames\":[{\"tree\":1,\"ops\":[]}],\"readers\":[[{\"q\":\"focus\"}],[]],\"order\":\"d1:1 r1 r2\"}",
-        "3",
-    ),
-    (
-        "{\"version\":1,\"frames\":[{\"tree\":1,\"ops\":[{\"op\":\"pass\"}]}],\"order\":\"f1 f1 x\"}",
-        "3",
-    ),
-];
-
-#[test]
-fn other_bytes_are_refused(rt: HostRuntime) -> Result<(), Fail> {
-    let alloc = rt.alloc();
-    for (bytes, refusal) in GRAMMAR {
-        let line = format!(in alloc; "script {refusal}\n")?;
-        let (status, text) = replayed(alloc, bytes.as_bytes())?;
-        assert_eq!(&rt; status, Status::Script);
-        assert_eq!(&rt; text.as_slice(), line.as_bytes());
-    }
-    for (bytes, item) in OUT_OF_TURN {
-        let line = format!(in alloc; "script BadOrder {item}\n")?;
-        let (status, text) = replayed(alloc, bytes.as_bytes())?;
-        assert_eq!(&rt; status, Status::Script);
-        assert_eq!(&rt; text.as_slice(), line.as_bytes());
-    }
-    Ok(())
-}
+const FIRST_TEXT: &str =
+    "finale\nf1 root 1 ok\nf1 pass 1 base 0 token 0\n  u clear 0 root 1 list 1 data\na1 applied 1\n  e 1:1 subtree_created\ndump\ntree 1 parent 0 focused 0 loaded no focus 0 sel 0 0 0 0 title \"\" url \"\"\n1 generic\n";
 
 /// A source of so many spaces.
 #[derive(Drop)]
@@ -249,123 +35,133 @@ impl Source for Spaces {
     }
 }
 
-#[test]
-fn one_byte_too_many_is_refused(rt: HostRuntime) -> Result<(), Fail> {
-    let alloc = rt.alloc();
-    let words = texts(alloc, &["replay"])?;
-    for (left, line) in [
-        (67_108_864, b"script NotJson\n".as_slice()),
-        (67_108_865, b"script TooBig 67108865\n".as_slice()),
-    ] {
-        let mut out = sink(alloc, 4096, Vec::new(alloc))?;
-        let status = calm_main(alloc, &words, &mut Spaces { left }, &mut out);
-        assert_eq!(&rt; status, Status::Script);
-        assert_eq!(&rt; out.held(), line);
-    }
-    Ok(())
+fn spaces_are_refused(alloc: Global, left: usize, line: &str) -> bool {
+    let given = Given::replay("");
+    writes(
+        alloc,
+        &mut Spaces { left },
+        &given,
+        Status::Script,
+        line.as_bytes(),
+    )
 }
 
 #[test]
-fn faults_have_their_status(rt: HostRuntime) -> Result<(), Fail> {
+fn one_byte_too_many_is_refused(rt: HostRuntime) {
     let alloc = rt.alloc();
-    let words = texts(alloc, &["replay"])?;
-    let mut src = MemSource::new(FIRST.to_vec(alloc)?, 4096, [1].to_vec(alloc)?);
-    let mut out = sink(alloc, 8, Vec::new(alloc))?;
-    assert_eq!(&rt;
-        calm_main(alloc, &words, &mut src, &mut out),
-        Status::ReadFault
-    );
-    assert!(&rt; out.held().is_empty());
+    assert!(rt; spaces_are_refused(alloc, 67_108_864, "script NotJson\n"));
+    assert!(rt; spaces_are_refused(alloc, 67_108_865, "script TooBig 67108865\n"));
+}
 
-    let mut done = 0;
-    for call in 1..1000u64 {
-        let mut src = MemSource::new(FIRST.to_vec(alloc)?, 4096, Vec::new(alloc));
-        let mut out = sink(alloc, 8, [call].to_vec(alloc)?)?;
-        let status = calm_main(alloc, &words, &mut src, &mut out);
-        if done >= FIRST_TEXT.len() {
-            assert_eq!(&rt; status, Status::Ok);
-            return Ok(());
+fn reads_nothing(alloc: Global) -> bool {
+    let given = Given {
+        words: &["replay"],
+        bytes: FIRST,
+        failing_read: 1,
+        failing_write: 0,
+    };
+    ends(alloc, &given, Status::ReadFault, b"")
+}
+
+fn writes_until(alloc: Global, failing_write: u64, status: Status, text: &[u8]) -> bool {
+    let given = Given {
+        words: &["replay"],
+        bytes: FIRST,
+        failing_read: 0,
+        failing_write,
+    };
+    ends(alloc, &given, status, text)
+}
+
+/// Whether the run stops at this write, and has written so many bytes.
+fn stops_at(alloc: Global, call: u64, written: usize) -> bool {
+    let text = FIRST_TEXT.as_bytes();
+    if written > text.len() {
+        return false;
+    }
+    writes_until(alloc, call, Status::WriteFault, text.split_at(written).0)
+}
+
+/// The text has 200 bytes, so it takes 25 writes.
+fn each_write_fails(alloc: Global) -> bool {
+    let mut written = 0_usize;
+    for call in 1..26 {
+        if !stops_at(alloc, call, written) {
+            return false;
         }
-        assert_eq!(&rt; status, Status::WriteFault);
-        assert_eq!(&rt; out.held(), FIRST_TEXT.split_at(done).0);
-        done += 8;
+        written = written.saturating_add(8);
     }
-    Err(Fail::from("no call was the last"))
-}
-
-/// What words are answered, over a source whose first read would fail.
-fn told(alloc: Global, words: &[&str]) -> Result<(Status, Vec<u8>), Fail> {
-    let words = texts(alloc, words)?;
-    let mut src = MemSource::new(FIRST.to_vec(alloc)?, 4096, [1].to_vec(alloc)?);
-    let mut out = sink(alloc, 8, Vec::new(alloc))?;
-    let status = calm_main(alloc, &words, &mut src, &mut out);
-    Ok((status, out.held().to_vec(alloc)?))
-}
-
-fn is_usage(answer: &(Status, Vec<u8>)) -> bool {
-    answer.0 == Status::Usage
-        && answer.1.as_slice()
-            == b"usage: ax_tool replay | race | combine | act | gen SEED FRAMES OPS\n".as_slice()
+    writes_until(alloc, 26, Status::Ok, FIRST_TEXT.as_bytes())
 }
 
 #[test]
-fn other_words_get_the_usage_line(rt: HostRuntime) -> Result<(), Fail> {
-    let alloc = rt.alloc();
-    assert!(&rt; is_usage(&told(alloc, &[])?));
-    assert!(&rt; is_usage(&told(alloc, &["-h"])?));
-    assert!(&rt; is_usage(&told(alloc, &["replay", "x"])?));
-    assert!(&rt; is_usage(&told(alloc, &["race"])?));
-    assert!(&rt; is_usage(&told(alloc, &["gen", "0", "0", "1"])?));
-    Ok(())
+fn faults_have_their_status(rt: HostRuntime) {
+    assert!(rt; reads_nothing(rt.alloc()));
+    assert!(rt; each_write_fails(rt.alloc()));
 }
 
-/// Seeds, frames and operations, and the line of each, which comes from a reference written apart.
-const MADE: [(&str, &str, &str, &str); 4] = [
+const USAGE: &str = "usage: ax_tool replay | race | combine | act | gen SEED FRAMES OPS\n";
+
+type Words = &'static [&'static str];
+
+/// Words, the status and the text of each. Of what `gen` makes, the line comes from a reference written apart.
+const ANSWERED: [(Words, Status, &str); 9] = [
+    (&[], Status::Usage, USAGE),
+    (&["-h"], Status::Usage, USAGE),
+    (&["replay", "x"], Status::Usage, USAGE),
+    (&["race"], Status::Usage, USAGE),
+    (&["gen", "0", "0", "1"], Status::Usage, USAGE),
     (
-        "0",
-        "1",
-        "1",
+        &["gen", "0", "1", "1"],
+        Status::Ok,
         "gen 0 1 1 passes 1 listed 1 applied 1 events 1 nodes 1\n",
     ),
     (
-        "1",
-        "3",
-        "40",
+        &["gen", "1", "3", "40"],
+        Status::Ok,
         "gen 1 3 40 passes 4 listed 19 applied 4 events 7 nodes 15\n",
     ),
     (
-        "4294967295",
-        "2",
-        "200",
+        &["gen", "4294967295", "2", "200"],
+        Status::Ok,
         "gen 4294967295 2 200 passes 16 listed 55 applied 16 events 51 nodes 12\n",
     ),
     (
-        "7",
-        "40",
-        "300",
+        &["gen", "7", "40", "300"],
+        Status::Ok,
         "gen 7 40 300 passes 60 listed 201 applied 60 events 89 nodes 171\n",
     ),
 ];
 
-#[test]
-fn made_scripts_are_run(rt: HostRuntime) -> Result<(), Fail> {
-    let alloc = rt.alloc();
-    for (seed, frames, ops, line) in MADE {
-        let (status, written) = told(alloc, &["gen", seed, frames, ops])?;
-        assert_eq!(&rt; status, Status::Ok);
-        assert_eq!(&rt; written.as_slice(), line.as_bytes());
-    }
-    Ok(())
+/// The first read would fail.
+fn is_answered(alloc: Global, words: Words, status: Status, text: &str) -> bool {
+    let given = Given {
+        words,
+        bytes: FIRST,
+        failing_read: 1,
+        failing_write: 0,
+    };
+    ends(alloc, &given, status, text.as_bytes())
 }
 
 #[test]
-fn a_failing_sink_has_a_front_of_the_line(rt: HostRuntime) -> Result<(), Fail> {
-    let alloc = rt.alloc();
-    let words = texts(alloc, &["gen", "0", "1", "1"])?;
-    let mut src = MemSource::new(Vec::new(alloc), 4096, Vec::new(alloc));
-    let mut out = sink(alloc, 8, [2].to_vec(alloc)?)?;
-    let status = calm_main(alloc, &words, &mut src, &mut out);
-    assert_eq!(&rt; status, Status::WriteFault);
-    assert_eq!(&rt; out.held(), b"gen 0 1 ".as_slice());
-    Ok(())
+fn words_are_answered(rt: HostRuntime) {
+    for (words, status, text) in ANSWERED {
+        assert!(rt; is_answered(rt.alloc(), words, status, text), "{text}");
+    }
+}
+
+fn stops_within_the_line(alloc: Global) -> bool {
+    let given = Given {
+        words: &["gen", "0", "1", "1"],
+        bytes: "",
+        failing_read: 0,
+        failing_write: 2,
+    };
+    ends(alloc, &given, Status::WriteFault, b"gen 0 1 ")
+}
+
+#[test]
+fn a_failing_sink_has_a_front_of_the_line(rt: HostRuntime) {
+    assert!(rt; stops_within_the_line(rt.alloc()));
 }

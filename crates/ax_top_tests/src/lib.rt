@@ -5,4 +5,8 @@
 #[cfg(test)]
 mod calls;
 #[cfg(test)]
+mod given;
+#[cfg(test)]
 mod lines;
+#[cfg(test)]
+mod scripts;

@@ -4,12 +4,11 @@ use ax_ask::{
     UpdateNote, UpdateNotes,
 };
 use ax_attrs::{EventKind, Key, Role};
-use ax_base::{Affinity, Ids, NoMemory, NodeId, PassNo, Place, Places, Pos, Text, Token, TreeId};
+use ax_base::{Affinity, Ids, NodeId, PassNo, Place, Places, Pos, Text, Token, TreeId};
 use ax_report::{Bytes, line_text, order_text};
 use ax_tree::{EditErr, Event, Events, MarkErr, Refusal, Verdict};
 use std::alloc::Global;
 use std::cmp::Ordering;
-use std::test::Fail;
 
 fn tree() -> TreeId {
     TreeId::new(1000).unwrap()
@@ -20,10 +19,9 @@ fn node() -> NodeId {
 }
 
 /// Whether the line is printed so.
-fn is(alloc: Global, line: Line, text: &str) -> Result<bool, NoMemory> {
+fn is(alloc: Global, line: Line, text: &str) -> bool {
     let mut out = Bytes::new(alloc);
-    line_text(&line, &mut out)?;
-    Ok(out.as_slice() == text.as_bytes())
+    line_text(&line, &mut out).is_ok() && out.as_slice() == text.as_bytes()
 }
 
 fn edited(refused: Option<EditErr>) -> Line {
@@ -45,29 +43,28 @@ fn touched(below: bool, refused: Option<MarkErr>) -> Line {
 }
 
 #[test]
-fn edits_and_touches(rt: HostRuntime) -> Result<(), Fail> {
+fn edits_and_touches(rt: HostRuntime) {
     let alloc = rt.alloc();
     let tree = tree();
-    assert!(rt; is(alloc, edited(None), "f1000 insert 7 ok\n")?);
+    assert!(rt; is(alloc, edited(None), "f1000 insert 7 ok\n"));
     assert!(rt;
         is(
             alloc,
             edited(Some(EditErr::BadIndex(5, 0))),
             "f1000 insert 7 BadIndex 5 0\n"
-        )?
+        )
     );
     assert!(rt;
         is(
             alloc,
             edited(Some(EditErr::BadAttr(Key::LEVEL))),
             "f1000 insert 7 BadAttr 8\n"
-        )?
+        )
     );
-    assert!(rt; is(alloc, Line::DataSet { tree }, "f1000 data ok\n")?);
-    assert!(rt; is(alloc, touched(false, None), "f1000 touch 7 ok\n")?);
+    assert!(rt; is(alloc, Line::DataSet { tree }, "f1000 data ok\n"));
+    assert!(rt; is(alloc, touched(false, None), "f1000 touch 7 ok\n"));
     let refused = touched(true, Some(MarkErr::UnknownNode(node())));
-    assert!(rt; is(alloc, refused, "f1000 touch_below 7 UnknownNode 7\n")?);
-    Ok(())
+    assert!(rt; is(alloc, refused, "f1000 touch_below 7 UnknownNode 7\n"));
 }
 
 fn update(clear: Option<NodeId>, nodes: Ids, with_data: bool) -> UpdateNote {
@@ -79,15 +76,14 @@ fn update(clear: Option<NodeId>, nodes: Ids, with_data: bool) -> UpdateNote {
     }
 }
 
-/// Two updates: two ids without tree data, and an empty list with them.
-fn updates(alloc: Global) -> Result<UpdateNotes, NoMemory> {
-    let mut nodes = Ids::new(alloc);
-    nodes.push(node())?;
-    nodes.push(node())?;
-    let mut updates = UpdateNotes::new(alloc);
-    updates.push(update(Some(node()), nodes, false))?;
-    updates.push(update(None, Ids::new(alloc), true))?;
-    Ok(updates)
+fn push_two(nodes: &mut Ids) -> bool {
+    nodes.push(node()).is_ok() && nodes.push(node()).is_ok()
+}
+
+/// Puts two updates: two ids without tree data, and an empty list with them.
+fn put_updates(updates: &mut UpdateNotes, two: Ids, none: Ids) -> bool {
+    updates.push(update(Some(node()), two, false)).is_ok()
+        && updates.push(update(None, none, true)).is_ok()
 }
 
 fn passed(note: PassNote) -> Line {
@@ -100,18 +96,21 @@ const PASS: &str = "f1000 pass 2 base 1 token 18446744073709551615
 ";
 
 #[test]
-fn passes(rt: HostRuntime) -> Result<(), Fail> {
+fn passes(rt: HostRuntime) {
     let alloc = rt.alloc();
-    assert!(rt; is(alloc, passed(PassNote::Nothing), "f1000 pass nothing\n")?);
+    assert!(rt; is(alloc, passed(PassNote::Nothing), "f1000 pass nothing\n"));
+    let mut two = Ids::new(alloc);
+    assert!(rt; push_two(&mut two));
+    let mut updates = UpdateNotes::new(alloc);
+    assert!(rt; put_updates(&mut updates, two, Ids::new(alloc)));
     let made = passed(PassNote::Made(MadeNote {
         pass: PassNo(2),
         base: PassNo(1),
         token: Token(18_446_744_073_709_551_615),
         resumed: false,
-        updates: updates(alloc)?,
+        updates,
     }));
-    assert!(rt; is(alloc, made, PASS)?);
-    Ok(())
+    assert!(rt; is(alloc, made, PASS));
 }
 
 fn event(node: Option<NodeId>, kind: EventKind) -> Event {
@@ -122,11 +121,11 @@ fn event(node: Option<NodeId>, kind: EventKind) -> Event {
     }
 }
 
-fn events(alloc: Global) -> Result<Events, NoMemory> {
-    let mut events = Events::new(alloc);
-    events.push(event(None, EventKind::LOAD_COMPLETE))?;
-    events.push(event(Some(node()), EventKind::FOCUS_CHANGED))?;
-    Ok(events)
+fn put_events(events: &mut Events) -> bool {
+    events.push(event(None, EventKind::LOAD_COMPLETE)).is_ok()
+        && events
+            .push(event(Some(node()), EventKind::FOCUS_CHANGED))
+            .is_ok()
 }
 
 fn received(verdict: Verdict) -> Line {
@@ -142,13 +141,15 @@ const APPLIED: &str = "a1000 applied 2
 ";
 
 #[test]
-fn receipts(rt: HostRuntime) -> Result<(), Fail> {
+fn receipts(rt: HostRuntime) {
     let alloc = rt.alloc();
+    let mut events = Events::new(alloc);
+    assert!(rt; put_events(&mut events));
     let applied = received(Verdict::Applied {
         pass: PassNo(2),
-        events: events(alloc)?,
+        events,
     });
-    assert!(rt; is(alloc, applied, APPLIED)?);
+    assert!(rt; is(alloc, applied, APPLIED));
     let had = Token(1);
     let want = Token(2);
     assert!(rt;
@@ -156,7 +157,7 @@ fn receipts(rt: HostRuntime) -> Result<(), Fail> {
             alloc,
             received(Verdict::Stale { had, want }),
             "a1000 stale 1 2\n"
-        )?
+        )
     );
     let base = PassNo(3);
     let at = PassNo(1);
@@ -165,10 +166,9 @@ fn receipts(rt: HostRuntime) -> Result<(), Fail> {
             alloc,
             received(Verdict::Gap { base, at }),
             "a1000 gap 3 1\n"
-        )?
+        )
     );
-    assert!(rt; is(alloc, received(Verdict::Gone), "a1000 gone\n")?);
-    Ok(())
+    assert!(rt; is(alloc, received(Verdict::Gone), "a1000 gone\n"));
 }
 
 fn probed(note: ProbeNote) -> Line {
@@ -176,53 +176,51 @@ fn probed(note: ProbeNote) -> Line {
 }
 
 #[test]
-fn browser(rt: HostRuntime) -> Result<(), Fail> {
+fn browser(rt: HostRuntime) {
     let alloc = rt.alloc();
     let tree = tree();
     let token = Some(Token(1));
-    assert!(rt; is(alloc, Line::Asked { tree, token }, "b ask 1000 token 1\n")?);
+    assert!(rt; is(alloc, Line::Asked { tree, token }, "b ask 1000 token 1\n"));
     assert!(rt;
         is(
             alloc,
             Line::Asked { tree, token: None },
             "b ask 1000 gone\n"
-        )?
+        )
     );
     assert!(rt;
         is(
             alloc,
             Line::Destroyed { tree, gone: true },
             "b destroy 1000 gone\n"
-        )?
+        )
     );
     assert!(rt;
         is(
             alloc,
             probed(ProbeNote::Accepted(100_000)),
             "b probe 1000 accepted 100000\n"
-        )?
+        )
     );
     let refused = probed(ProbeNote::Refused(Refusal::Reparented(node())));
-    assert!(rt; is(alloc, refused, "b probe 1000 Reparented 7\n")?);
+    assert!(rt; is(alloc, refused, "b probe 1000 Reparented 7\n"));
     let token = Token(1_000_000);
-    assert!(rt; is(alloc, Line::Delivered { tree, token }, "d1000:1000000\n")?);
-    Ok(())
+    assert!(rt; is(alloc, Line::Delivered { tree, token }, "d1000:1000000\n"));
 }
 
 #[test]
-fn actions(rt: HostRuntime) -> Result<(), Fail> {
+fn actions(rt: HostRuntime) {
     let acted = Line::Acted {
         tree: tree(),
         name: DoName::SetValue,
         node: node(),
         out: ActNote::NoContainer(node()),
     };
-    assert!(rt; is(rt.alloc(), acted, "p1000 set_value 7 NoContainer 7\n")?);
-    Ok(())
+    assert!(rt; is(rt.alloc(), acted, "p1000 set_value 7 NoContainer 7\n"));
 }
 
 /// Whether the reply is printed so.
-fn told(alloc: Global, query: QueryName, reply: Reply, text: &str) -> Result<bool, NoMemory> {
+fn told(alloc: Global, query: QueryName, reply: Reply, text: &str) -> bool {
     let answered = Line::Answered {
         reader: 16,
         query,
@@ -238,11 +236,8 @@ fn place() -> Place {
     }
 }
 
-fn places(alloc: Global) -> Result<Places, NoMemory> {
-    let mut places = Places::new(alloc);
-    places.push(place())?;
-    places.push(place())?;
-    Ok(places)
+fn put_places(places: &mut Places) -> bool {
+    places.push(place()).is_ok() && places.push(place()).is_ok()
 }
 
 fn up() -> Reply {
@@ -255,30 +250,32 @@ fn up() -> Reply {
 }
 
 #[test]
-fn replies(rt: HostRuntime) -> Result<(), Fail> {
+fn replies(rt: HostRuntime) {
     let alloc = rt.alloc();
     let none = Reply::Places(Places::new(alloc));
-    assert!(rt; told(alloc, QueryName::Children, none, "r16 children = -\n")?);
-    let two = Reply::Places(places(alloc)?);
+    assert!(rt; told(alloc, QueryName::Children, none, "r16 children = -\n"));
+    let mut two = Places::new(alloc);
+    assert!(rt; put_places(&mut two));
+    let two = Reply::Places(two);
     assert!(rt;
         told(
             alloc,
             QueryName::UChildren,
             two,
             "r16 u_children = 1000:7 1000:7\n"
-        )?
+        )
     );
     let heading = Reply::Node(Role::HEADING, 0);
-    assert!(rt; told(alloc, QueryName::Node, heading, "r16 node = heading 0\n")?);
+    assert!(rt; told(alloc, QueryName::Node, heading, "r16 node = heading 0\n"));
     let less = Reply::Order(Ordering::Less);
-    assert!(rt; told(alloc, QueryName::Compare, less, "r16 compare = Less\n")?);
+    assert!(rt; told(alloc, QueryName::Compare, less, "r16 compare = Less\n"));
     assert!(rt;
         told(
             alloc,
             QueryName::Leaf,
             up(),
             "r16 leaf = 1000:7 text 5 up\n"
-        )?
+        )
     );
     let bounds = Reply::Bounds(-1, 0, 4_294_967_296, 7);
     assert!(rt;
@@ -287,9 +284,8 @@ fn replies(rt: HostRuntime) -> Result<(), Fail> {
             QueryName::Bounds,
             bounds,
             "r16 bounds = [-1,0,4294967296,7]\n"
-        )?
+        )
     );
-    Ok(())
 }
 
 const PLAIN: &str = "a\"\\\u{0}\u{8}\t\n\u{b}\u{c}\r\u{1f} \u{7f}\u{e9}\u{2028}\u{1f600}";
@@ -297,28 +293,37 @@ const PLAIN: &str = "a\"\\\u{0}\u{8}\t\n\u{b}\u{c}\r\u{1f} \u{7f}\u{e9}\u{2028}\
 const ESCAPED: &str =
     "r16 text = \"a\\\"\\\\\\u0000\\b\\t\\n\\u000b\\f\\r\\u001f \u{7f}\u{e9}\u{2028}\u{1f600}\"\n";
 
-#[test]
-fn escapes(rt: HostRuntime) -> Result<(), Fail> {
-    let text = Reply::Text(Text::of(rt.alloc(), PLAIN)?);
-    assert!(rt; told(rt.alloc(), QueryName::Text, text, ESCAPED)?);
-    Ok(())
+fn is_escaped(alloc: Global) -> bool {
+    match Text::of(alloc, PLAIN) {
+        Ok(text) => told(alloc, QueryName::Text, Reply::Text(text), ESCAPED),
+        Err(_) => false,
+    }
 }
 
-fn items(alloc: Global) -> Result<Items, NoMemory> {
+#[test]
+fn escapes(rt: HostRuntime) {
+    assert!(rt; is_escaped(rt.alloc()));
+}
+
+fn put_items(items: &mut Items) -> bool {
+    items.push(Item::Frame(tree())).is_ok()
+        && items.push(Item::Receive(tree())).is_ok()
+        && items.push(Item::Browser).is_ok()
+        && items.push(Item::Deliver(tree(), Token(2))).is_ok()
+        && items.push(Item::Reader(16)).is_ok()
+}
+
+/// Whether nothing is written of no item, and then the five.
+fn are_written(none: &Items, five: &Items, out: &mut Bytes) -> bool {
+    order_text(none, out).is_ok()
+        && order_text(five, out).is_ok()
+        && out.as_slice() == "f1000 a1000 b d1000:2 r16".as_bytes()
+}
+
+#[test]
+fn order(rt: HostRuntime) {
+    let alloc = rt.alloc();
     let mut items = Items::new(alloc);
-    items.push(Item::Frame(tree()))?;
-    items.push(Item::Receive(tree()))?;
-    items.push(Item::Browser)?;
-    items.push(Item::Deliver(tree(), Token(2)))?;
-    items.push(Item::Reader(16))?;
-    Ok(items)
-}
-
-#[test]
-fn order(rt: HostRuntime) -> Result<(), Fail> {
-    let mut out = Bytes::new(rt.alloc());
-    order_text(&Items::new(rt.alloc()), &mut out)?;
-    order_text(&items(rt.alloc())?, &mut out)?;
-    assert_eq!(rt; out.as_slice(), "f1000 a1000 b d1000:2 r16".as_bytes());
-    Ok(())
+    assert!(rt; put_items(&mut items));
+    assert!(rt; are_written(&Items::new(alloc), &items, &mut Bytes::new(alloc)));
 }

@@ -1,14 +1,13 @@
-//! Source trees: each call once, the greatest chain, the greatest count, and walks. Each step says whether it was done.
+//! Source trees: marks of what is removed, the greatest chain, the greatest count, and walks. Each step says whether it was done.
+//! What edits do is told in the printed text of pages.
 
-ghost use Rattle.std.specs.Prelude.{IfSome};
 ghost use Rattle.ax_tree.specs.Edits.{HasLeaf};
 
 use crate::given::tree_id;
-use ax_attrs::Key;
 use ax_base::{Ids, NodeId};
-use ax_node::{NodeData, Value};
+use ax_node::NodeData;
 use ax_source::SourceTree;
-use ax_tree::{AttrChange, AttrChanges, Edit, EditErr, SetNode, SetTree, TreeView};
+use ax_tree::{Edit, EditErr, TreeView};
 use ax_views::{chain, depth, height_below, is_below, pre};
 use std::alloc::Global;
 use std::test::Fail;
@@ -87,44 +86,6 @@ fn stand(alloc: Global, s: &SourceTree, numbers: &[u32]) -> bool {
     }
 }
 
-fn inserts_below(alloc: Global, s: &mut SourceTree) -> bool {
-    four(alloc, s)
-        && insert(alloc, s, 2, 0, 5)
-        && stand(alloc, s, &[1, 2, 5, 3, 4])
-        && marked(s, &[2, 5])
-}
-
-#[test]
-fn inserts(rt: HostRuntime) -> Result<(), Fail> {
-    let mut s = SourceTree::new(rt.alloc(), tree_id()?);
-    assert!(rt; inserts_below(rt.alloc(), &mut s));
-    Ok(())
-}
-
-fn move_to(s: &mut SourceTree, node: u32, parent: u32) -> bool {
-    match (NodeId::new(node), NodeId::new(parent)) {
-        (Some(node), Some(parent)) => s
-            .edit(&Edit::Move {
-                node,
-                parent,
-                index: 0,
-            })
-            .is_ok(),
-        _ => false,
-    }
-}
-
-fn moves_below(alloc: Global, s: &mut SourceTree) -> bool {
-    four(alloc, s) && move_to(s, 2, 4) && stand(alloc, s, &[1, 4, 2, 3]) && marked(s, &[1, 4])
-}
-
-#[test]
-fn moves(rt: HostRuntime) -> Result<(), Fail> {
-    let mut s = SourceTree::new(rt.alloc(), tree_id()?);
-    assert!(rt; moves_below(rt.alloc(), &mut s));
-    Ok(())
-}
-
 fn touch(s: &mut SourceTree, n: u32) -> bool {
     match NodeId::new(n) {
         Some(id) => s.mark(id).is_ok(),
@@ -160,84 +121,6 @@ fn removes_marked(alloc: Global, s: &mut SourceTree) -> bool {
 fn removes(rt: HostRuntime) -> Result<(), Fail> {
     let mut s = SourceTree::new(rt.alloc(), tree_id()?);
     assert!(rt; removes_marked(rt.alloc(), &mut s));
-    Ok(())
-}
-
-/// The edit that gives a node a level.
-fn levelled(alloc: Global, node: NodeId) -> Option<Edit>
-    ensures { IfSome result HasLeaf }
-{
-    let mut attrs = AttrChanges::new(alloc);
-    attrs
-        .push(AttrChange {
-            key: Key::LEVEL,
-            value: Some(Value::Int(2)),
-        })
-        .ok()?;
-    Some(Edit::Set(SetNode {
-        node,
-        role: None,
-        states: None,
-        attrs,
-        rect: None,
-    }))
-}
-
-fn level(alloc: Global, s: &mut SourceTree, node: NodeId) -> bool {
-    match levelled(alloc, node) {
-        Some(edit) => s.edit(&edit).is_ok(),
-        None => false,
-    }
-}
-
-fn has_level(s: &SourceTree, node: NodeId) -> bool {
-    match s.node(node) {
-        Some(node) => node.attrs.get(Key::LEVEL).is_some(),
-        None => false,
-    }
-}
-
-fn sets_level(alloc: Global, s: &mut SourceTree) -> bool {
-    match NodeId::new(3) {
-        Some(node) => {
-            four(alloc, s) && level(alloc, s, node) && has_level(s, node) && marked(s, &[3])
-        }
-        None => false,
-    }
-}
-
-#[test]
-fn sets_a_node(rt: HostRuntime) -> Result<(), Fail> {
-    let mut s = SourceTree::new(rt.alloc(), tree_id()?);
-    assert!(rt; sets_level(rt.alloc(), &mut s));
-    Ok(())
-}
-
-fn load(s: &mut SourceTree) -> bool {
-    s.edit(&Edit::Tree(SetTree {
-        parent: None,
-        focused: None,
-        loaded: Some(true),
-        focus: None,
-        anchor: None,
-        end: None,
-        title: None,
-        url: None,
-    }))
-    .is_ok()
-}
-
-/// The flag stands until the data are sent.
-fn sets_loaded(alloc: Global, s: &mut SourceTree) -> bool {
-    let told = root(alloc, s) && load(s) && s.data_changed() && s.tree_data().loaded;
-    s.data_sent();
-    told && !s.data_changed()
-}
-
-#[test]
-fn sets_tree_data(rt: HostRuntime) -> Result<(), Fail> {
-    let mut s = SourceTree::new(rt.alloc(), tree_id()?);
-    assert!(rt; sets_loaded(rt.alloc(), &mut s));
     Ok(())
 }
 

@@ -152,7 +152,16 @@ function drawLine() {
     mark.style.gridRow = step.lane === "all" ? `1 / ${Math.max(2, rows.size + 1)}` : rows.get(step.lane);
     mark.addEventListener("click", () => show(at));
     return mark;
-  }));
+  }), ...story.steps.flatMap((step, at) => step.events ? [eventMark(at, step.events.length, rows.get("e"))] : []));
+}
+
+/** How many events a step told. What is read out of the time line has it in the step's own mark. */
+function eventMark(at, count, row) {
+  const mark = make("div", { class: "mark", "aria-hidden": "true", title: `${count} event${count === 1 ? "" : "s"}` }, String(count));
+  mark.style.gridColumn = at + 1;
+  mark.style.gridRow = row;
+  mark.addEventListener("click", () => show(at));
+  return mark;
 }
 
 function markLine() {

@@ -1,7 +1,7 @@
 use Rattle.std.proofs.Common.{◌≡◌, ◌<◌, ◌^◌, length, filter_map, ap, arith, ◌∙◌}
 use Rattle.ax_trees.specs.Trees.{ids}
 use Rattle.ax_rules.specs.Stitched.{stitched, places}
-use Rattle.ax_combine.specs.Numbering.{place_of_number}
+use Rattle.ax_report.specs.Combining.{place_of_number}
 use Rattle.ax_combine.specs.Kept.{kept_trees}
 use Rattle.ax_combine.proofs.Whole.{combined_order}
 use Rattle.ax_combine.proofs.Rows.{places_length, made, combined_is, kept_tree}

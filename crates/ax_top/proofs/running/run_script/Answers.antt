@@ -15,6 +15,6 @@ returns-in-Some c =
 
 pub returns : goal.returns
 returns c =
-    whole_runs c.args.script _ c.as_slice.result.now c.in_ok-core.core c.put_order.new.core c.new-text.result.items c.put_order.new.out.items c.put_finale.new.out.items c.take_order-order.ensures.rest c.in_ok-core.ensures.state
+    whole_runs c.args.script _ c.as_slice.result.now c.in_ok-core.core c.put_order.new.core c.put_finale.new.core c.new-text.result.items c.put_order.new.out.items c.put_finale.new.out.items c.take_order-order.ensures.rest c.in_ok-core.ensures.state
     (c.as_slice.ensures ∙ c.take_order-order.ensures.order) c.new-text.ensures.items
     (are_done c.in_ok-core.core c.put_order.new.core c.as_slice.result.now c.new-text.result.items c.put_order.new.out.items _ c.in_ok-missing.ensures c.in-None.is) c.in_ok-put_finale-in-None.ensures

@@ -23,12 +23,12 @@ make_and_run-requires-clause-ops g c =
 pub returns-in-Ok-clause-usage : goal.returns-in-Ok-clause-usage
 returns-in-Ok-clause-usage g c = λ is.
     let whole = λ (w : c.finish.result ≡ WriteFault). let bad : ⊥ = cc in bad in (
-      not_built (command_of c.args.words.now) (λ e. search rules) (λ s f n e. search rules),
+      not_built (command_of c.args.words.now) (λ e. search rules) (λ e. search rules) (λ s f n e. search rules),
       rw c.as_bytes.ensures.value at (c.finish.ensures.whole whole).1,
     )
 
 pub returns-in-Ok-clause-write : goal.returns-in-Ok-clause-write
 returns-in-Ok-clause-write g c = λ is. (
   c.finish.ensures.fault is,
-  writes_usage (command_of c.args.words.now) _ _ _ (not_built (command_of c.args.words.now) (λ e. search rules) (λ s f n e. search rules)) (rw c.as_bytes.ensures.value at (c.finish.ensures.front is)),
+  writes_usage (command_of c.args.words.now) _ _ _ (not_built (command_of c.args.words.now) (λ e. search rules) (λ e. search rules) (λ s f n e. search rules)) (rw c.as_bytes.ensures.value at (c.finish.ensures.front is)),
 )

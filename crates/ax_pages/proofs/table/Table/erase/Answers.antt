@@ -8,17 +8,17 @@ use Rattle.ax_pages.proofs.table.Table.erase.Goals as goal
 pub returns-in-Some-clause-ok : goal.returns-in-Some-clause-ok
 returns-in-Some-clause-ok g c =
     on_ok c.take_from_shared.result _ _ c.take_from_shared.ensures.ok
-    (out_held c.in-Some.pages.value c.take_from_shared.new.pages.value c.get.result c.args.id c.args.self.now c.get.ensures.same
-    (seen_at c.self.inside.pages c.in-Some.pages c.args.self.now c.in-Some.is c.self.view_is))
+    (out_held c.in-Some.blocks.value c.take_from_shared.new.blocks.value c.get.result c.args.id c.args.self.now c.get.ensures.same
+    (seen_at c.self.inside.blocks c.in-Some.blocks c.args.self.now c.in-Some.is c.self.view_is))
 
 pub returns-in-Some-clause-err : goal.returns-in-Some-clause-err
 returns-in-Some-clause-err g c =
     on_err c.take_from_shared.result _ _ c.take_from_shared.ensures.err
-    (kept_held c.in-Some.pages.value c.take_from_shared.new.pages.value c.args.self.now (seen_at c.self.inside.pages c.in-Some.pages c.args.self.now c.in-Some.is c.self.view_is))
+    (kept_held c.in-Some.blocks.value c.take_from_shared.new.blocks.value c.args.self.now (seen_at c.self.inside.blocks c.in-Some.blocks c.args.self.now c.in-Some.is c.self.view_is))
 
 pub take_from_shared-requires-clause-there : goal.take_from_shared-requires-clause-there
 take_from_shared-requires-clause-there g c =
-    ap is_some (seen_at c.self.inside.pages c.in-Some.pages c.args.self.now c.in-Some.is c.self.view_is c.get.result ∙ ap (map.get c.args.self.now) c.get.ensures.same) ∙ c.requires
+    ap is_some (seen_at c.self.inside.blocks c.in-Some.blocks c.args.self.now c.in-Some.is c.self.view_is c.get.result ∙ ap (map.get c.args.self.now) c.get.ensures.same) ∙ c.requires
 
 pub returns-clause-ok : goal.returns-clause-ok
 returns-clause-ok g c =

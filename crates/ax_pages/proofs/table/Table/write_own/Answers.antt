@@ -7,17 +7,17 @@ use Rattle.ax_pages.proofs.table.Table.write_own.Goals as goal
 pub returns-in-Some-clause-ok : goal.returns-in-Some-clause-ok
 returns-in-Some-clause-ok g c =
     on_ok c.put_in_own.result _ _ c.put_in_own.ensures.ok
-    (put_held c.in-Some.pages.value c.put_in_own.new.pages.value c.get.result c.args.id _ c.args.value c.args.self.now c.get.ensures.same c.in-Ok.ensures.ok
-    (seen_at c.self.inside.pages c.in-Some.pages c.args.self.now c.in-Some.is c.self.view_is))
+    (put_held c.in-Some.blocks.value c.put_in_own.new.blocks.value c.get.result c.args.id _ c.args.value c.args.self.now c.get.ensures.same c.in-Ok.ensures.ok
+    (seen_at c.self.inside.blocks c.in-Some.blocks c.args.self.now c.in-Some.is c.self.view_is))
 
 pub returns-in-Some-clause-err : goal.returns-in-Some-clause-err
 returns-in-Some-clause-err g c =
     on_err c.put_in_own.result _ _ c.put_in_own.ensures.err
-    (kept_held c.in-Some.pages.value c.put_in_own.new.pages.value c.args.self.now (seen_at c.self.inside.pages c.in-Some.pages c.args.self.now c.in-Some.is c.self.view_is))
+    (kept_held c.in-Some.blocks.value c.put_in_own.new.blocks.value c.args.self.now (seen_at c.self.inside.blocks c.in-Some.blocks c.args.self.now c.in-Some.is c.self.view_is))
 
 pub returns-in-Ok-new-clause-ok : goal.returns-in-Ok-new-clause-ok
 returns-in-Ok-new-clause-ok g c =
     let was : map.empty ≡ c.args.self.now = ap held (sym c.in-None.is) ∙ c.self.view_is in
-    let first = put_held c.new-pages.result c.put_in_own_pages.new.pages c.get-in-None.result c.args.id _ c.args.value c.args.self.now c.get-in-None.ensures.same c.in-Ok.ensures.ok
-    (empty_at c.new-pages.result c.args.self.now c.new-pages.ensures.empty was) c.in_ok-put_in_own_pages-in-None.ensures.ok in
+    let first = put_held c.new-blocks.result c.put_in_blocks.new.blocks c.get-in-None.result c.args.id _ c.args.value c.args.self.now c.get-in-None.ensures.same c.in-Ok.ensures.ok
+    (empty_at c.new-blocks.result c.args.self.now c.new-blocks.ensures.empty was) c.in_ok-put_in_blocks-in-None.ensures.ok in
     rw c.in-Ok-new.ensures.ok first

@@ -1,0 +1,4 @@
+pub mod Moves
+mod PerformingLemmas
+mod SharingLemmas
+mod ActingLemmas

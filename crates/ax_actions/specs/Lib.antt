@@ -1,0 +1,4 @@
+pub mod Posts
+pub mod Ends
+pub mod Performing
+pub mod Acting
