@@ -1,0 +1,12 @@
+pub mod ListLemmas
+pub mod Ends
+pub mod Turns
+pub mod Placing
+pub mod Opened
+pub mod FirstSeats
+pub mod MadeLists
+pub mod Closed
+pub mod Browser
+pub mod Readers
+pub mod Telling
+pub mod Left

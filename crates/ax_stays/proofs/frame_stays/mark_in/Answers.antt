@@ -1,0 +1,30 @@
+use Rattle.std.proofs.Common.{ℕ, ap, subst}
+use Rattle.ax_tree.specs.declared.packet.JEntry.TheVariants.{Marked}
+use Rattle.ax_stays.specs.FrameCalls.{mark_entries, IsMarkAnswer}
+use Rattle.ax_stays.specs.Makers.{maker_of}
+use Rattle.ax_stays.proofs.Growing.{frame_leaves, frame_named, frame_stays, grows_at, out_is}
+use Rattle.ax_stays.proofs.Journals.{keeps_fits, mark_own, same_tree}
+use Rattle.ax_stays.proofs.frame_stays.mark_in.Goals as goal
+
+pub leave-requires-clause-grows : goal.leave-requires-clause-grows
+leave-requires-clause-grows g c =
+    frame_leaves 0 c.args.seat.now c.enter-round.new.seat c.enter-round.new.seat c.enter-round.result c.mark-answer.new.self (mark_entries (Marked c.args.id) c.mark-answer.result) c.requires.seat c.enter-round.ensures.seat c.mark-answer.ensures.grown (mark_own c.args.id c.mark-answer.result)
+
+pub leave-requires-clause-name : goal.leave-requires-clause-name
+leave-requires-clause-name g c =
+    frame_named 0 c.args.seat.now c.enter-round.new.seat c.enter-round.new.seat c.enter-round.result c.mark-answer.new.self (mark_entries (Marked c.args.id) c.mark-answer.result) c.requires.seat c.enter-round.ensures.seat c.mark-answer.ensures.grown _ c.enter-round.ensures.name
+
+pub returns-clause-seat : goal.returns-clause-seat
+returns-clause-seat g c = out_is c.args.seat.now c.enter-round.new.seat c.leave.new.seat c.enter-round.result.journal c.mark-answer.new.self.journal c.enter-round.ensures.seat c.requires.seat.idle c.leave.ensures
+
+pub returns-clause-stay : goal.returns-clause-stay
+returns-clause-stay g c = λ t named.
+    frame_stays 0 c.args.seat.now c.enter-round.new.seat c.leave.new.seat c.enter-round.result c.mark-answer.new.self (mark_entries (Marked c.args.id) c.mark-answer.result) c.requires.seat c.enter-round.ensures.seat c.mark-answer.ensures.grown
+    (IsMarkAnswer t c.args.id c.mark-answer.result) c.enter-round.ensures.begins c.leave.ensures
+    (subst (λ (u : ℕ). IsMarkAnswer u c.args.id c.mark-answer.result c.enter-round.result.journal) (same_tree c.args.turn.now.name t c.enter-round.result.tree named c.enter-round.ensures.name) c.mark-answer.ensures.answer)
+
+pub returns-clause-fits : goal.returns-clause-fits
+returns-clause-fits g c = λ t named.
+    keeps_fits t c.args.turn.now.name c.args.seat.now.seen c.enter-round.result c.mark-answer.new.self c.leave.new.seat.seen (mark_entries (Marked c.args.id) c.mark-answer.result) named c.enter-round.ensures.name
+    (grows_at maker_of c.args.seat.now.low c.args.seat.now.high 0 1 c.args.seat.now.seen c.enter-round.result.journal c.requires.seat.low c.requires.seat.high c.enter-round.ensures.begins)
+    c.mark-answer.ensures.grown (ap (λ v. v.seen) c.leave.ensures) c.mark-answer.ensures.fits

@@ -1,0 +1,6 @@
+pub mod Makers
+pub mod Stays
+pub mod FrameCalls
+pub mod Received
+pub mod LaneEnds
+pub mod Looks
